@@ -1,0 +1,13 @@
+// Card devices: the interface that every make keeps, and the faults that it may name.
+
+// Who refused what: causes, acts, faults and their levels; the geometry.
+pub mod faults;
+// The interface: a device of sectors, and what it means.
+pub mod sector_device;
+
+pub use faults::Act;
+pub use faults::Cause;
+pub use faults::Fault;
+pub use faults::Geometry;
+pub use faults::check_transfer;
+pub use sector_device::SectorDevice;
