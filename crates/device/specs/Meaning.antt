@@ -2,7 +2,7 @@
 use mathlib.Core.Path.{_≡_}
 use mathlib.Core.List.{List, []}
 use Prim.Native.Nat.{ℕ, _<_, _≤_}
-use lib.ListN.{length, getD, set}
+use lib.ListN.{length, getD, set, replicate}
 use Rattle.device.specs.declared.faults.Geometry.{Geometry}
 
 -- steady: it refuses nothing; well: it may refuse, and is failed from then on; failed: it refuses everything
@@ -20,6 +20,10 @@ pub record Meaning : Type 0 where
 -- sector n, which is there
 abbrev pub sector : Meaning → ℕ → List ℕ
 sector m n = getD (m .sectors) n []
+
+-- n zero bytes
+unfoldable pub zeros : ℕ → List ℕ
+zeros n = replicate n 0
 
 -- each number of the list is a byte
 abbrev pub Bytes : List ℕ → Type 0

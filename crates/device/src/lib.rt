@@ -2,6 +2,8 @@
 
 // Who refused what: causes, acts, faults and their levels; the geometry.
 pub mod faults;
+// Sectors of zeros.
+pub mod sectors;
 // The interface: a device of sectors, and what it means.
 pub mod sector_device;
 
@@ -10,4 +12,5 @@ pub use faults::Cause;
 pub use faults::Fault;
 pub use faults::Geometry;
 pub use faults::check_transfer;
+pub use sectors::zero_sector;
 pub use sector_device::SectorDevice;
