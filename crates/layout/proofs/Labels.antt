@@ -14,7 +14,7 @@ use Rattle.std.specs.shelf.Text.{sameBytes}
 use Rattle.layout.specs.Bytes.{part}
 use Rattle.layout.specs.Words.{word-at, double-at}
 use Rattle.layout.specs.Sizes.{entries-of, area-of, slots-of, layout-of}
-use Rattle.layout.specs.Label.{Field, field, first-failing, checks-of, bad-field, label-front, label-head, label-sector, label-in, read-label, answered, dos-name, dos-version, signature, Lawful-label}
+use Rattle.layout.specs.Label.{first-failing, checks-of, bad-field, label-front, label-head, label-sector, label-in, read-label, answered, dos-name, dos-version, signature, Lawful-label}
 use Rattle.layout.specs.declared.label.Label.{Label}
 use Rattle.layout.specs.declared.sizes.Layout.{Layout}
 use Rattle.device.specs.Meaning.{zeros}
@@ -31,8 +31,9 @@ signed-rest k m n s t h l e =
     ap (drop k) (e ∙ ap (λ (x : List ℕ). x ++ t) (take-zeros m n l)) ∙ drop-append-le k (zeros m) t z
     ∙ ap (λ (x : List ℕ). x ++ t) (drop-zeros k m)
 
-pass : (k : ℕ) (h : Bool) (fs : List Field) → h ≡ true → first-failing (field k h ∷ fs) ≡ first-failing fs
-pass k h fs e = ap (λ (b : Bool). cond {A = Option ℕ} b (first-failing fs) (Some k)) e
+-- a field that holds leaves the answer to those after it
+pass : (k : ℕ) {h : Bool} {x : Option ℕ} → h ≡ true → x ≡ None → cond h x (Some k) ≡ None
+pass k e f = ap₂ (λ (b : Bool) (y : Option ℕ). cond b y (Some k)) e f
 
 both : (a b : Bool) → a ≡ true → b ≡ true → (a && b) ≡ true
 both a b p q = ap₂ (λ (x y : Bool). x && y) p q
@@ -100,13 +101,13 @@ no-bad-field l n ln li p =
     let area : word-at b 29 ≡ area-of s = words-back l .2 ∙ ap (λ (x : Layout). x .area) (p .layout) in
     let signed = ap (λ (x : List ℕ). sameBytes x signature) (signature-back l ln li) in
     ap (λ (x : ℕ). first-failing (checks-of n x b)) (sectors-back l)
-    ∙ pass 0 _ _ (both _ _ (lt-ltb 0 n some) (texts-back l .0))
-    ∙ pass 10 _ _ (texts-back l .1)
-    ∙ pass 15 _ _ (both _ _ (le-leb s n (p .sectors)) (lt-ltb 0 (slots-of s) (p .slots)))
-    ∙ pass 25 _ _ (eq-eqb _ _ entries)
-    ∙ pass 27 _ _ (eq-eqb _ _ (words-back l .1))
-    ∙ pass 29 _ _ (eq-eqb _ _ area)
-    ∙ pass 510 _ _ signed
+    ∙ pass 0 (both _ _ (lt-ltb 0 n some) (texts-back l .0))
+      (pass 10 (texts-back l .1)
+      (pass 15 (both _ _ (le-leb s n (p .sectors)) (lt-ltb 0 (slots-of s) (p .slots)))
+      (pass 25 (eq-eqb _ _ entries)
+      (pass 27 (eq-eqb _ _ (words-back l .1))
+      (pass 29 (eq-eqb _ _ area)
+      (pass 510 signed refl))))))
 
 label-in-back : (l : Label) (n : ℕ) → length (l .name) ≡ 16 → length (l .id) ≡ 4 → Lawful-label l n → label-in (label-sector l) ≡ l
 unfolding label-in
