@@ -12,5 +12,5 @@ pub use faults::Cause;
 pub use faults::Fault;
 pub use faults::Geometry;
 pub use faults::check_transfer;
-pub use sectors::zero_sector;
 pub use sector_device::SectorDevice;
+pub use sectors::zero_sector;

@@ -5,6 +5,7 @@ use mathlib.Core.List.{List, [], _∷_, _++_, append-nil}
 use Prim.Native.Nat.{ℕ, _+_, _-_, _*_, _/_, _%_, _<_, _≤_}
 use native.Mathlib.Omega.{arith}
 use borrow.Author.Tests.{lt-ltb, le-leb, eq-eqb}
+use lib.Dec.{ltb, lit≤}
 use lib.ListN.{length, take, drop, length-append}
 use Rattle.std.proofs.shelf.Lists.{drop-all, drop-drop, drop-append-le, append-assoc, take-at, drop-at}
 use Rattle.std.specs.declared.option.Option.{Option}
@@ -43,7 +44,7 @@ word-back : (w : ℕ) → w % 256 + w / 256 * 256 ≡ w
 word-back w = omega arith
 
 double-back : (d : ℕ) →
-  (d / 65536 % 256 + d / 65536 / 256 * 256) * 65536 + (d % 65536 % 256 + d % 65536 / 256 * 256) ≡ d
+    (d / 65536 % 256 + d / 65536 / 256 * 256) * 65536 + (d % 65536 % 256 + d % 65536 / 256 * 256) ≡ d
 double-back d = omega arith
 
 head-length : (l : Label) → length (l .name) ≡ 16 → length (l .id) ≡ 4 → length (label-head l) ≡ 52
@@ -81,13 +82,13 @@ unfolding label-sector label-front
 texts-back l = (refl, refl)
 
 words-back : (l : Label) →
-  (word-at (label-sector l) 25 ≡ l .layout .entries) × (word-at (label-sector l) 27 ≡ 1) × (word-at (label-sector l) 29 ≡ l .layout .area)
+    (word-at (label-sector l) 25 ≡ l .layout .entries) × (word-at (label-sector l) 27 ≡ 1) × (word-at (label-sector l) 29 ≡ l .layout .area)
 unfolding label-sector label-front
 words-back l = (word-back (l .layout .entries), refl, word-back (l .layout .area))
 
 geometry-back : (l : Label) →
-  (word-at (label-sector l) 19 ≡ l .geometry .cylinders) × (word-at (label-sector l) 21 ≡ l .geometry .«sectors_per_track»)
-  × (word-at (label-sector l) 23 ≡ l .geometry .heads)
+    (word-at (label-sector l) 19 ≡ l .geometry .cylinders) × (word-at (label-sector l) 21 ≡ l .geometry .«sectors_per_track»)
+    × (word-at (label-sector l) 23 ≡ l .geometry .heads)
 unfolding label-sector label-front
 geometry-back l = (word-back (l .geometry .cylinders), word-back (l .geometry .«sectors_per_track»), word-back (l .geometry .heads))
 
@@ -102,12 +103,12 @@ no-bad-field l n ln li p =
     let signed = ap (λ (x : List ℕ). sameBytes x signature) (signature-back l ln li) in
     ap (λ (x : ℕ). first-failing (checks-of n x b)) (sectors-back l)
     ∙ pass 0 (both _ _ (lt-ltb 0 n some) (texts-back l .0))
-      (pass 10 (texts-back l .1)
-      (pass 15 (both _ _ (le-leb s n (p .sectors)) (lt-ltb 0 (slots-of s) (p .slots)))
-      (pass 25 (eq-eqb _ _ entries)
-      (pass 27 (eq-eqb _ _ (words-back l .1))
-      (pass 29 (eq-eqb _ _ area)
-      (pass 510 signed refl))))))
+    (pass 10 (texts-back l .1)
+    (pass 15 (both _ _ (le-leb s n (p .sectors)) (lt-ltb 0 (slots-of s) (p .slots)))
+    (pass 25 (eq-eqb _ _ entries)
+    (pass 27 (eq-eqb _ _ (words-back l .1))
+    (pass 29 (eq-eqb _ _ area)
+    (pass 510 signed refl))))))
 
 label-in-back : (l : Label) (n : ℕ) → length (l .name) ≡ 16 → length (l .id) ≡ 4 → Lawful-label l n → label-in (label-sector l) ≡ l
 unfolding label-in
@@ -119,3 +120,25 @@ label-in-back l n ln li p =
 -- a master sector that we write is read as the label that it was written for
 pub label-back : (l : Label) (n : ℕ) → length (l .name) ≡ 16 → length (l .id) ≡ 4 → Lawful-label l n → read-label n (label-sector l) ≡ Ok l
 label-back l n ln li p = ap₂ answered (no-bad-field l n ln li p) (label-in-back l n ln li p)
+
+pub length-label-sector : (l : Label) → length (l .name) ≡ 16 → length (l .id) ≡ 4 → length (label-sector l) ≡ 512
+unfolding label-sector
+length-label-sector l n i =
+    length-append (label-head l) (zeros 458 ++ signature)
+    ∙ ap₂ (λ (a b : ℕ). a + b) (head-length l n i) (length-append (zeros 458) signature ∙ ap (λ (a : ℕ). a + 2) (length-zeros 458))
+
+zeros-no-name : sameBytes (zeros 9) dos-name ≡ false
+unfolding zeros
+zeros-no-name = refl
+
+and-false : (a : Bool) → (a && false) ≡ false
+and-false true = refl
+and-false false = refl
+
+-- a sector of zeros is no master sector: its first field fails
+pub zeros-bad : (n : ℕ) → bad-field n (zeros 512) ≡ Some 0
+unfolding bad-field
+zeros-bad n =
+    let named = ap (λ (x : List ℕ). sameBytes x dos-name) (take-zeros 9 512 (lit≤ tt)) ∙ zeros-no-name in
+    let none = ap (λ (b : Bool). ltb 0 n && b) named ∙ and-false (ltb 0 n) in
+    rw none

@@ -73,10 +73,10 @@ bad-field n b = first-failing (checks-of n (double-at b 15) b)
 -- what the sector says, checked or not
 unfoldable pub label-in : List ℕ → Label
 label-in b = record {
-    layout = layout-of (double-at b 15);
-    geometry = record { cylinders = word-at b 19; «sectors_per_track» = word-at b 21; heads = word-at b 23 };
-    name = part b 32 16;
-    id = part b 48 4
+  layout = layout-of (double-at b 15);
+  geometry = record { cylinders = word-at b 19; «sectors_per_track» = word-at b 21; heads = word-at b 23 };
+  name = part b 32 16;
+  id = part b 48 4;
 }
 
 abbrev pub answered : Option ℕ → Label → Result Label ℕ

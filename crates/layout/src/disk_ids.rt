@@ -14,7 +14,12 @@ impl DiskId {
         ensures { λ r. ⌜ r ≡ id-of (now (text .entry)) ⌝ }
     {
         match *text {
-            [a @ b'A'..=b'Z', b @ b'0'..=b'9', c @ b'A'..=b'Z', d @ b'0'..=b'9'] => Some(DiskId {
+            [
+                a @ b'A'..=b'Z',
+                b @ b'0'..=b'9',
+                c @ b'A'..=b'Z',
+                d @ b'0'..=b'9',
+            ] => Some(DiskId {
                 bytes: [a, b, c, d],
             }),
             _ => None,

@@ -46,7 +46,7 @@ pub record Interrupted (t : Faults) (m m′ : Meaning) (ws : List SectorWrite) (
   pub refusable : MayRefuse (m .condition)
   pub names : t Write (getD ws which (write-of 0 []) .at) f
   pub leaves : (m′ ≡ failed-with m (applied (m .sectors) (take which ws)))
-    ⊎ ((m .condition ≡ well) × (m′ ≡ failed-with m (applied (m .sectors) (take (which + 1) ws))))
+      ⊎ ((m .condition ≡ well) × (m′ ≡ failed-with m (applied (m .sectors) (take (which + 1) ws))))
 
 -- what a call that only writes answers and leaves
 abbrev pub Written : {A : Type 0} → Faults → (m m′ : Meaning) → List SectorWrite → Result A Fault → Type 0

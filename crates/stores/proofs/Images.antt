@@ -47,17 +47,17 @@ pub count-few : (k : ℕ) → image-count k ≤ 268435456
 count-few k = grind (arith)
 
 part-kept : (n k i : ℕ) (bs ys : List ℕ) → k < n → i < n → 512 * n ≤ length bs → length ys ≡ 512 → i ≢ k →
-  take 512 (drop (512 * i) (putMid (512 * k) 512 bs ys)) ≡ take 512 (drop (512 * i) bs)
+    take 512 (drop (512 * i) (putMid (512 * k) 512 bs ys)) ≡ take 512 (drop (512 * i) bs)
 part-kept n k i bs ys h hi f l other =
     let a : 512 * k ≤ length bs = omega arith in
     elim (le-or-lt i k) [
-        inl le ↦
+      | inl le ↦
           let d : 512 * i + 512 - 512 * i ≡ 512 = omega arith in
           let b : 512 * i + 512 ≤ 512 * k = omega arith in
           let w : between (512 * i) (512 * i + 512) (putMid (512 * k) 512 bs ys) ≡ between (512 * i) (512 * i + 512) bs =
-              between-is (putMid (512 * k) 512 bs ys) (512 * i) (512 * i + 512)
-              ∙ ap (drop (512 * i)) (take-putMid-below (512 * k) 512 bs ys (512 * i + 512) b a)
-              ∙ sym (between-is bs (512 * i) (512 * i + 512)) in
+          between-is (putMid (512 * k) 512 bs ys) (512 * i) (512 * i + 512)
+          ∙ ap (drop (512 * i)) (take-putMid-below (512 * k) 512 bs ys (512 * i + 512) b a)
+          ∙ sym (between-is bs (512 * i) (512 * i + 512)) in
           rw d at w
       | inr gt ↦
           let b : 512 * k + 512 ≤ 512 * i = omega arith in
@@ -65,13 +65,13 @@ part-kept n k i bs ys h hi f l other =
     ]
 
 sectors-in-put-at : (n k i : ℕ) (bs ys : List ℕ) → k < n → i < n → 512 * n ≤ length bs → length ys ≡ 512 →
-  getD (sectors-in n (putMid (512 * k) 512 bs ys)) i [] ≡ getD (set (sectors-in n bs) k ys) i []
+    getD (sectors-in n (putMid (512 * k) 512 bs ys)) i [] ≡ getD (set (sectors-in n bs) k ys) i []
 sectors-in-put-at n k i bs ys h hi f l =
     let e = getD-sectors-in n i (putMid (512 * k) 512 bs ys) hi in
     let in-k : k < length (sectors-in n bs) = rw length-sectors-in h in
     let a : 512 * k ≤ length bs = omega arith in
     elim (cases-eq i k) [
-        inl same ↦
+      | inl same ↦
           let b : 512 * k + 512 - 512 * k ≡ 512 = omega arith in
           let l′ : length ys ≡ 512 * k + 512 - 512 * k = omega arith in
           let m = between-putMid (512 * k) 512 bs ys (512 * k + 512) a l′ in
@@ -83,13 +83,13 @@ sectors-in-put-at n k i bs ys h hi f l =
     ]
 
 pub sectors-in-put : (n k : ℕ) (bs ys : List ℕ) → k < n → 512 * n ≤ length bs → length ys ≡ 512 →
-  sectors-in n (putMid (512 * k) 512 bs ys) ≡ set (sectors-in n bs) k ys
+    sectors-in n (putMid (512 * k) 512 bs ys) ≡ set (sectors-in n bs) k ys
 sectors-in-put n k bs ys h f l =
     ext-getD [] _ _ (length-sectors-in n (putMid (512 * k) 512 bs ys) ∙ sym (length-set (sectors-in n bs) k ys ∙ length-sectors-in n bs))
     (λ i hi. let hi′ : i < n = rw length-sectors-in at hi in sectors-in-put-at n k i bs ys h hi′ f l)
 
 pub put-image : (bs : List ℕ) (k : ℕ) (ys : List ℕ) (g : Geometry) → k < image-count (length bs) → length ys ≡ 512 →
-  image-of (putMid (512 * k) (512 * k + 512 - 512 * k) bs ys) g ≡ with-sector (image-of bs g) k ys
+    image-of (putMid (512 * k) (512 * k + 512 - 512 * k) bs ys) g ≡ with-sector (image-of bs g) k ys
 put-image bs k ys g h l =
     let d : 512 * k + 512 - 512 * k ≡ 512 = omega arith in
     let f = count-fits (length bs) in
@@ -98,7 +98,7 @@ put-image bs k ys g h l =
     let e : length (putMid (512 * k) 512 bs ys) ≡ length bs = simp (length-append, length-take-le, length-drop) (omega arith) in
     let n = image-count (length bs) in
     let s : sectors-in (image-count (length (putMid (512 * k) 512 bs ys))) (putMid (512 * k) 512 bs ys) ≡ set (sectors-in n bs) k ys =
-        ap (λ (j : ℕ). sectors-in (image-count j) (putMid (512 * k) 512 bs ys)) e ∙ sectors-in-put n k bs ys h f l in
+    ap (λ (j : ℕ). sectors-in (image-count j) (putMid (512 * k) 512 bs ys)) e ∙ sectors-in-put n k bs ys h f l in
     rw (d, s)
 
 inside : (bs : List ℕ) (k : ℕ) → k < image-count (length bs) → length (sectors-in (image-count (length bs)) bs) ≤ k → ⊥
@@ -109,20 +109,20 @@ room bs k h = let f = count-fits (length bs) in simp length-drop (omega arith)
 
 -- an accepted write
 pub image-writes : (bs : List ℕ) (k : ℕ) (ys b : List ℕ) (g : Geometry) → k < image-count (length bs) → ys ≡ b → length b ≡ 512 →
-  Writes (λ a n f. ⊥) (image-of bs g) (image-of (putMid (512 * k) (512 * k + 512 - 512 * k) bs ys) g) k b (Ok tt)
+    Writes (λ a n f. ⊥) (image-of bs g) (image-of (putMid (512 * k) (512 * k + 512 - 512 * k) bs ys) g) k b (Ok tt)
 image-writes bs k ys b g h e l = record {
-    wrong-length = λ ne. elim (ne l) [ ];
-    out-of-range = λ _ o. elim (inside bs k h o) [ ];
-    otherwise = λ _ _. (tt, put-image bs k ys g h (ap length e ∙ l) ∙ ap (with-sector (image-of bs g) k) e)
+  wrong-length = λ ne. elim (ne l) [ ];
+  out-of-range = λ _ o. elim (inside bs k h o) [ ];
+  otherwise = λ _ _. (tt, put-image bs k ys g h (ap length e ∙ l) ∙ ap (with-sector (image-of bs g) k) e);
 }
 
 -- an accepted read
 pub image-reads : (bs : List ℕ) (k : ℕ) (b b′ : List ℕ) (g : Geometry) → k < image-count (length bs) → length b ≡ 512 →
-  b′ ≡ take 512 (drop (512 * k) bs) → Reads (λ a n f. ⊥) (image-of bs g) (image-of bs g) k b b′ (Ok tt)
+    b′ ≡ take 512 (drop (512 * k) bs) → Reads (λ a n f. ⊥) (image-of bs g) (image-of bs g) k b b′ (Ok tt)
 image-reads bs k b b′ g h l e = record {
-    wrong-length = λ ne. elim (ne l) [ ];
-    out-of-range = λ _ o. elim (inside bs k h o) [ ];
-    otherwise = λ _ _. (tt, e ∙ sym (getD-sectors-in (image-count (length bs)) k bs h), refl)
+  wrong-length = λ ne. elim (ne l) [ ];
+  out-of-range = λ _ o. elim (inside bs k h o) [ ];
+  otherwise = λ _ _. (tt, e ∙ sym (getD-sectors-in (image-count (length bs)) k bs h), refl);
 }
 
 none-below : (i : ℕ) → getD {A = ℕ} [] i 0 < 256
@@ -145,10 +145,10 @@ bytes-below (suc n) (suc k) bs h i = bytes-below n k (drop 512 bs) (drop-below 5
 
 pub image-lawful : (bs : List ℕ) (g : Geometry) → Bytes bs → Lawful (image-of bs g)
 image-lawful bs g b = record {
-    few = rw length-sectors-in (count-few (length bs));
-    whole = λ k h.
-        let n = image-count (length bs) in
-        let h′ : k < n = rw length-sectors-in at h in
-        ap length (getD-sectors-in n k bs h′) ∙ length-take-le 512 (drop (512 * k) bs) (room bs k h′);
-    bytes = λ k. bytes-below (image-count (length bs)) k bs b
+  few = rw length-sectors-in (count-few (length bs));
+  whole = λ k h.
+      let n = image-count (length bs) in
+      let h′ : k < n = rw length-sectors-in at h in
+      ap length (getD-sectors-in n k bs h′) ∙ length-take-le 512 (drop (512 * k) bs) (room bs k h′);
+  bytes = λ k. bytes-below (image-count (length bs)) k bs b;
 }

@@ -13,6 +13,6 @@ Inv-loop-n g l =
     let m = d .meaning (l .entry .device) in
     (l .n - l .first ≤ l .end - l .first)
     × (d .sound (l .entry .device) →
-      d .sound (l .device)
+    d .sound (l .device)
     × Within (d .faults (l .device)) (d .faults (l .entry .device))
     × (l .end ≤ length (m .sectors) → (d .meaning (l .device) ≡ zeroed m (l .first) (l .n - l .first)) × (0 < l .n - l .first → MayAccept (m .condition))))

@@ -24,8 +24,8 @@ returns c =
     let b7 = put-word b6 27 1 in
     let b8 = put-word b7 29 (l .layout .area) in
     let e2 : c .put-double .last .bytes ≡ b2 =
-        c .put-double .ensures
-        ∙ ap₂ (λ (x y : List ℕ). put-double (putMid 10 4 (putMid 0 9 (replicate {A = ℕ} 52 0) x) y) 15 (l .layout .sectors)) t1 t2 in
+    c .put-double .ensures
+    ∙ ap₂ (λ (x y : List ℕ). put-double (putMid 10 4 (putMid 0 9 (replicate {A = ℕ} 52 0) x) y) 15 (l .layout .sectors)) t1 t2 in
     let e3 : c .put-word .last .bytes ≡ b3 = c .put-word .ensures ∙ ap (λ (b : List ℕ). put-word b 19 (l .geometry .cylinders)) e2 in
     let e4 : c .put-word-2 .last .bytes ≡ b4 = c .put-word-2 .ensures ∙ ap (λ (b : List ℕ). put-word b 21 (l .geometry .«sectors_per_track»)) e3 in
     let e5 : c .put-word-3 .last .bytes ≡ b5 = c .put-word-3 .ensures ∙ ap (λ (b : List ℕ). put-word b 23 (l .geometry .heads)) e4 in

@@ -4,5 +4,11 @@ use Rattle.layout.proofs.label.Label.in_sector.Needs as need
 pub returns : need.returns
 unfolding label-in
 returns c = simp (
-    c .of .ensures, c .double-at .ensures, c .word-at .ensures, c .word-at-2 .ensures, c .word-at-3 .ensures,
-    c .copy-from-slice .ensures .after, c .copy-from-slice-2 .ensures .after)
+  c .of .ensures,
+  c .double-at .ensures,
+  c .word-at .ensures,
+  c .word-at-2 .ensures,
+  c .word-at-3 .ensures,
+  c .copy-from-slice .ensures .after,
+  c .copy-from-slice-2 .ensures .after,
+)

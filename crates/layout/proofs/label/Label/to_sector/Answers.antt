@@ -13,6 +13,6 @@ unfolding label-sector
 returns c =
     let h = c .copy-from-slice .ensures .after ∙ c .head .ensures .value in
     let s : c .sign .last .sector ≡ take 510 (zeros 512) ++ signature =
-        c .sign .ensures ∙ ap (λ (x : List ℕ). take 510 x ++ signature) (c .zero-sector-sector .ensures) in
+    c .sign .ensures ∙ ap (λ (x : List ℕ). take 510 x ++ signature) (c .zero-sector-sector .ensures) in
     let value = ap₂ (λ (x y : List ℕ). x ++ y) h (signed-rest 52 510 512 _ signature (lit≤ tt) (lit≤ tt) s) in
     record { value = value; back = λ n p. ap (read-label n) value ∙ label-back (c .args .self .now) n (c .head .ensures .lengths .0) (c .head .ensures .lengths .1) p }

@@ -19,16 +19,16 @@ returns c =
     let p = passed (c .in-Continue-check-transfer .ensures tt) in
     let h = subst (λ (j : ℕ). c .args .n < j) (c .count-of .ensures) (p .1) in
     record {
-        stays = λ u. u;
-        faults = λ u a k f z. z;
-        reads = λ u. image-reads _ _ _ _ _ h (p .0) (c .copy-sector .ensures)
+      stays = λ u. u;
+      faults = λ u a k f z. z;
+      reads = λ u. image-reads _ _ _ _ _ h (p .0) (c .copy-sector .ensures);
     }
 
 pub returns-in-Break-check-transfer : need.returns-in-Break-check-transfer
 returns-in-Break-check-transfer c =
     let p = err-from-errBy (c .from-residual .result) (c .from-residual .ensures .1) in
     record {
-        stays = λ u. u;
-        faults = λ u a k f z. z;
-        reads = λ u. rw (p .1, p .2) (refused-read (c .count-of .ensures ∙ sym (length-sectors-in _ _)) (c .in-Break-check-transfer .ensures tt))
+      stays = λ u. u;
+      faults = λ u a k f z. z;
+      reads = λ u. rw (p .1, p .2) (refused-read (c .count-of .ensures ∙ sym (length-sectors-in _ _)) (c .in-Break-check-transfer .ensures tt));
     }
