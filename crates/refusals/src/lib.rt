@@ -5,7 +5,6 @@ ghost use Rattle.refusals.specs.declared.Refusal.the-variants.{Device as ByDev
 use device::Fault;
 use device::faults::FaultDebug;
 use device::faults::FaultPartialEq;
-use std::fmt;
 
 #[derive(Clone, Copy, PartialEq, Eq, Debug)]
 pub enum Refusal {
@@ -41,35 +40,4 @@ pub impl From<Fault> for Refusal as RefusalFromFault {
     fn from(fault: Fault) -> Refusal {
         Refusal::Device(fault)
     }
-}
-
-// What stood in the way, for a person to read.
-pub impl fmt::Display for Refusal as RefusalDisplay {
-    fn fmt<W: fmt::Write>(&self, f: &mut fmt::Formatter<W>) -> fmt::Result {
-        match self {
-            Refusal::Name => f.write_str(
-                "a name is 1 to 16 of A to Z, 0 to 9, space and minus, not all of them spaces",
-            ),
-            Refusal::DiskId => f.write_str(
-                "a disk id is a letter, a digit, a letter and a digit, as B1Y7",
-            ),
-            Refusal::TooSmall => f.write_str("a card that small has no room for a file"),
-            Refusal::Field(offset) => write!(
-                f,
-                "no card of this format: its master sector fails at ${offset:03X}"
-            ),
-            Refusal::Device(fault) => write_fault(fault, f),
-        }
-    }
-}
-
-fn write_fault<W: fmt::Write>(fault: &Fault, f: &mut fmt::Formatter<W>) -> fmt::Result {
-    let cause = fault.cause.number();
-    let act = fault.act.number();
-    let sector = fault.sector;
-    let level = fault.level;
-    write!(
-        f,
-        "the device refused (cause {cause}, act {act}, sector {sector}, level {level})"
-    )
 }
