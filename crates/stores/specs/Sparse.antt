@@ -95,8 +95,8 @@ abbrev pub Table-after : (xs ys : Places) → ℕ → List ℕ → Result (Unit 
 Table-after xs ys n b (Ok u) = Stored xs ys n b
 Table-after xs ys n b (Err f) = ys ≡ xs
 
--- a card that was well (f) is failed (f′) after a write exactly where the buffer is a sector, the sector is on the
--- card, the bytes are not all zero, no place keeps the sector and no place is free
+-- f and f′ say whether the card is failed before and after a write of bytes b: refusals begin exactly where these are
+-- a sector, that sector is on the card, they are not all zero, no place keeps the sector and none is free
 pub record Begins (xs : Places) (s n : ℕ) (b : List ℕ) (f f′ : Bool) : Type 0 where
   pub only-then : f ≡ false → f′ ≡ true → (length b ≡ 512) × (n < s) × (b ≢ zeros 512) × Full xs n
   pub always-then : f ≡ false → length b ≡ 512 → n < s → b ≢ zeros 512 → Full xs n → f′ ≡ true

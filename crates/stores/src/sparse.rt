@@ -7,7 +7,8 @@ ghost use Prim.Native.Nat.{ℕ, _<_, _≤_};
 ghost use lib.ListN.{length, getD, replicate};
 ghost use denote.Ref.{now};
 ghost use Rattle.std.specs.Orderings.{Decides};
-ghost use Rattle.std.specs.declared.option.Option.the-variants.{Some, None};
+ghost use Rattle.std.specs.declared.option.Option.the-variants.{None};
+ghost use Rattle.std.specs.declared.result.Result.the-variants.{Ok};
 ghost use Rattle.device.specs.Faults.{Within};
 ghost use Rattle.device.specs.Meaning.{Meaning, zeros, well};
 ghost use Rattle.device.specs.Transfers.{Reads, Writes};
@@ -145,11 +146,12 @@ pub impl<'a> SectorDevice for SparseDevice<'a> as SparseSectors {
         self.geometry
     }
 
-    // It refuses a sector only if it is failed already: a read changes nothing.
+    // A card that is well accepts every read of a sector that is there, and no read changes it.
     fn read(&mut self, n: u32, buf: &mut [u8]) -> Result<(), Fault>
         ensures stays { λ r. ⌜ (Sparse-sound (now (now (self .entry) .places)) (now (self .entry) .size) → Sparse-sound (now (now (self .exit) .places)) (now (self .exit) .size)) ⌝ }
         ensures faults { λ r. ⌜ (Sparse-sound (now (now (self .entry) .places)) (now (self .entry) .size) → Within sparse-faults sparse-faults) ⌝ }
         ensures reads { λ r. ⌜ (Sparse-sound (now (now (self .entry) .places)) (now (self .entry) .size) → Reads sparse-faults (sparse-of (now (now (self .entry) .places)) (now (self .entry) .size) (now (self .entry) .geometry) (now (self .entry) .failed)) (sparse-of (now (now (self .exit) .places)) (now (self .exit) .size) (now (self .exit) .geometry) (now (self .exit) .failed)) n (now (buf .entry)) (now (buf .exit)) r) ⌝ }
+        ensures accepted { λ r. ⌜ (now (self .entry) .failed ≡ false → length (now (buf .entry)) ≡ 512 → n < now (self .entry) .size → r ≡ Ok tt) ⌝ }
         ensures unchanged { λ r. ⌜ now (self .exit) ≡ now (self .entry) ⌝ }
     {
         check_transfer(Act::Read, n, self.size, buf.len())?;
@@ -160,6 +162,7 @@ pub impl<'a> SectorDevice for SparseDevice<'a> as SparseSectors {
         Ok(())
     }
 
+    // Zeros give back every place of the sector, other bytes take one; where there is none, refusals begin.
     fn write(&mut self, n: u32, buf: &[u8]) -> Result<(), Fault>
         ensures stays { λ r. ⌜ (Sparse-sound (now (now (self .entry) .places)) (now (self .entry) .size) → Sparse-sound (now (now (self .exit) .places)) (now (self .exit) .size)) ⌝ }
         ensures faults { λ r. ⌜ (Sparse-sound (now (now (self .entry) .places)) (now (self .entry) .size) → Within sparse-faults sparse-faults) ⌝ }

@@ -1,5 +1,7 @@
-use mathlib.Core.Path.{refl, sym}
+use mathlib.Core.Path.{refl, sym, _∙_, ap}
 use Rattle.std.proofs.shelf.Results.{err-from-errBy}
+use Rattle.std.proofs.shelf.Tests.{both-ways}
+use Rattle.std.specs.declared.result.Result.the-variants.{Err}
 use Rattle.device.proofs.Checks.{passed, refused-read}
 use Rattle.stores.proofs.SparseTables.{length-sparse}
 use Rattle.stores.proofs.SparseTransfers.{sparse-read, sparse-read-refused}
@@ -13,6 +15,7 @@ returns-in-Break-check-transfer c =
       stays = λ s. s;
       faults = λ s a k f z. z;
       reads = λ s. rw (p .1, p .2) (refused-read (sym (length-sparse (d .size) (d .places .now))) (c .in-Break-check-transfer .ensures tt));
+      accepted = λ w l m. p .1 ∙ ap Err (p .2) ∙ c .in-Break-check-transfer .ensures tt .otherwise l m;
       unchanged = refl;
     }
 
@@ -24,6 +27,7 @@ returns-then-self c =
       stays = λ s. s;
       faults = λ s a k f z. z;
       reads = λ s. sparse-read-refused (d .places .now) (d .size) (d .geometry) (d .failed) (c .args .n) _ _ (c .if-self .taken) (c .new .ensures) (p .1) (p .0);
+      accepted = λ w l m. absurd (both-ways (d .failed) w (c .if-self .taken));
       unchanged = refl;
     }
 
@@ -35,5 +39,6 @@ returns c =
       stays = λ s. s;
       faults = λ s a k f z. z;
       reads = λ s. sparse-read (d .places .now) (d .size) (d .geometry) (d .failed) (c .args .n) _ _ (c .if-self .left) (p .1) (p .0) (c .copy-sector .ensures);
+      accepted = λ w l m. refl;
       unchanged = refl;
     }
