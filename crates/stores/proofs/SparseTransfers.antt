@@ -8,6 +8,7 @@ use native.Mathlib.Omega.{arith}
 use lib.ListN.{length, getD, set}
 use Rattle.std.proofs.shelf.Tests.{true≢false, both-ways, cases-lt}
 use Rattle.std.proofs.shelf.Lists.{getD-past}
+use Rattle.std.specs.declared.result.Result.{Result}
 use Rattle.std.specs.declared.result.Result.the-variants.{Ok, Err}
 use Rattle.device.specs.Faults.{fault, Checks}
 use Rattle.device.specs.Meaning.{Meaning, Sectors, Bytes, Lawful, MayRefuse, zeros, well, failed}
@@ -86,14 +87,33 @@ sparse-write-refused xs s g f f′ k b e q d h l = record {
   otherwise = λ _ _. (may-refuse f, d, inl (ap (λ (v : Bool). sparse-of xs s g v) q));
 }
 
--- refusals do not begin where one of the conditions is missing and the card stays as it is
-pub begins-not : (xs : Places) (s n : ℕ) (b : List ℕ) (f : Bool) → (f ≡ false → length b ≡ 512 → n < s → b ≢ zeros 512 → Full xs n → ⊥) →
-    Begins xs s n b f f
-begins-not xs s n b f h = record {
+-- a write that a well card does not come to: it was failed, or the length or the range is wrong
+pub begins-elsewhere : (xs : Places) (s n : ℕ) (b : List ℕ) (f : Bool) (r : Result (Unit {0}) Fault) → (f ≡ false → length b ≡ 512 → n < s → ⊥) →
+    Begins xs s n b f f r
+begins-elsewhere xs s n b f r h = record {
   only-then = λ p q. absurd (both-ways f p q);
-  always-then = λ p l m z u. absurd (h p l m z u);
+  always-then = λ p l m z u. absurd (h p l m);
+  otherwise = λ p l m z. absurd (h p l m);
 }
 
-pub begins-not-unchecked : (xs : Places) (s n : ℕ) (b : List ℕ) (f : Bool) (e : Fault) → Checks Write n s (length b) (Err e) → Begins xs s n b f f
-begins-not-unchecked xs s n b f e c =
-    begins-not xs s n b f (λ w l m z u. let o = c .otherwise l m in let q : _≡_ {A = ℕ} 0 1 = cc in omega arith)
+pub begins-unchecked : (xs : Places) (s n : ℕ) (b : List ℕ) (f : Bool) (r : Result (Unit {0}) Fault) (e : Fault) → Checks Write n s (length b) (Err e) →
+    Begins xs s n b f f r
+begins-unchecked xs s n b f r e c =
+    begins-elsewhere xs s n b f r (λ w l m. let o = c .otherwise l m in let q : _≡_ {A = ℕ} 0 1 = cc in omega arith)
+
+-- an accepted write
+pub begins-not : (xs : Places) (s n : ℕ) (b : List ℕ) (f : Bool) → (b ≢ zeros 512 → Full xs n → ⊥) → Begins xs s n b f f (Ok tt)
+begins-not xs s n b f h = record {
+  only-then = λ p q. absurd (both-ways f p q);
+  always-then = λ p l m z u. absurd (h z u);
+  otherwise = λ p l m z. (p, refl);
+}
+
+-- the write that finds no place
+pub begins-here : (xs : Places) (s n : ℕ) (b : List ℕ) (f : Bool) (e : Fault) → e ≡ fault Device Write n → length b ≡ 512 → n < s → b ≢ zeros 512 → Full xs n →
+    Begins xs s n b f true (Err e)
+begins-here xs s n b f e d l m z u = record {
+  only-then = λ p q. (l, m, z, u);
+  always-then = λ p l m z u. (refl, ap Err d);
+  otherwise = λ p l m h. absurd (h z u);
+}

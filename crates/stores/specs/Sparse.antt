@@ -16,6 +16,7 @@ use Rattle.device.specs.Meaning.{Meaning, Sectors, Bytes, zeros, well, failed}
 use Rattle.device.specs.declared.faults.Fault.{Fault}
 use Rattle.device.specs.declared.faults.Geometry.{Geometry}
 use Rattle.device.specs.declared.faults.Cause.the-variants.{Device}
+use Rattle.device.specs.declared.faults.Act.the-variants.{Write}
 use Rattle.stores.specs.declared.kept.KeptSector.{KeptSector}
 
 abbrev pub Places : Type 0
@@ -95,8 +96,11 @@ abbrev pub Table-after : (xs ys : Places) → ℕ → List ℕ → Result (Unit 
 Table-after xs ys n b (Ok u) = Stored xs ys n b
 Table-after xs ys n b (Err f) = ys ≡ xs
 
--- f and f′ say whether the card is failed before and after a write of bytes b: refusals begin exactly where these are
--- a sector, that sector is on the card, they are not all zero, no place keeps the sector and none is free
-pub record Begins (xs : Places) (s n : ℕ) (b : List ℕ) (f f′ : Bool) : Type 0 where
+-- f and f′ say whether the card is failed before and after a write of bytes b, which is answered by r: a card that is
+-- well refuses exactly where b is not all zero, no place keeps the sector and none is free
+pub record Begins (xs : Places) (s n : ℕ) (b : List ℕ) (f f′ : Bool) (r : Result (Unit {0}) Fault) : Type 0 where
   pub only-then : f ≡ false → f′ ≡ true → (length b ≡ 512) × (n < s) × (b ≢ zeros 512) × Full xs n
-  pub always-then : f ≡ false → length b ≡ 512 → n < s → b ≢ zeros 512 → Full xs n → f′ ≡ true
+  pub always-then :
+      f ≡ false → length b ≡ 512 → n < s → b ≢ zeros 512 → Full xs n → (f′ ≡ true) × (r ≡ Err (fault Device Write n))
+  pub otherwise :
+      f ≡ false → length b ≡ 512 → n < s → (b ≢ zeros 512 → Full xs n → ⊥) → (f′ ≡ false) × (r ≡ Ok tt)

@@ -167,7 +167,7 @@ pub impl<'a> SectorDevice for SparseDevice<'a> as SparseSectors {
         ensures stays { λ r. ⌜ (Sparse-sound (now (now (self .entry) .places)) (now (self .entry) .size) → Sparse-sound (now (now (self .exit) .places)) (now (self .exit) .size)) ⌝ }
         ensures faults { λ r. ⌜ (Sparse-sound (now (now (self .entry) .places)) (now (self .entry) .size) → Within sparse-faults sparse-faults) ⌝ }
         ensures writes { λ r. ⌜ (Sparse-sound (now (now (self .entry) .places)) (now (self .entry) .size) → Writes sparse-faults (sparse-of (now (now (self .entry) .places)) (now (self .entry) .size) (now (self .entry) .geometry) (now (self .entry) .failed)) (sparse-of (now (now (self .exit) .places)) (now (self .exit) .size) (now (self .exit) .geometry) (now (self .exit) .failed)) n (now (buf .entry)) r) ⌝ }
-        ensures begins { λ r. ⌜ Begins (now (now (self .entry) .places)) (now (self .entry) .size) n (now (buf .entry)) (now (self .entry) .failed) (now (self .exit) .failed) ⌝ }
+        ensures begins { λ r. ⌜ Begins (now (now (self .entry) .places)) (now (self .entry) .size) n (now (buf .entry)) (now (self .entry) .failed) (now (self .exit) .failed) r ⌝ }
         ensures table { λ r. ⌜ Table-after (now (now (self .entry) .places)) (now (now (self .exit) .places)) n (now (buf .entry)) r ⌝ }
     {
         check_transfer(Act::Write, n, self.size, buf.len())?;

@@ -10,7 +10,7 @@ use Rattle.device.specs.Meaning.{zeros}
 use Rattle.device.proofs.Checks.{passed, refused-write}
 use Rattle.stores.specs.Sparse.{Places, sparse-sectors, Sparse-sound}
 use Rattle.stores.proofs.SparseTables.{length-sparse, sectors-given-back, sound-given-back, sectors-placed, sound-placed, not-full}
-use Rattle.stores.proofs.SparseTransfers.{sparse-write, sparse-write-refused, begins-not, begins-not-unchecked}
+use Rattle.stores.proofs.SparseTransfers.{sparse-write, sparse-write-refused, begins-elsewhere, begins-unchecked, begins-not, begins-here}
 use Rattle.stores.proofs.sparse.SparseSectors.write.Needs as need
 
 pub returns-in-Break-check-transfer : need.returns-in-Break-check-transfer
@@ -22,7 +22,7 @@ returns-in-Break-check-transfer c =
       stays = λ s. s;
       faults = λ s a k f z. z;
       writes = λ s. rw (p .1, p .2) (refused-write (sym (length-sparse (d .size) (d .places .now))) t);
-      begins = begins-not-unchecked (d .places .now) (d .size) (c .args .n) (c .args .buf .now) (d .failed) _ t;
+      begins = begins-unchecked (d .places .now) (d .size) (c .args .n) (c .args .buf .now) (d .failed) _ _ t;
       table = rw (p .1) refl;
     }
 
@@ -36,8 +36,8 @@ returns-then-self c =
       writes = λ s.
           sparse-write-refused (d .places .now) (d .size) (d .geometry) (d .failed) (d .failed) (c .args .n) _ _ (c .if-self .taken) (c .new .ensures) (p .1) (p .0);
       begins =
-          begins-not (d .places .now) (d .size) (c .args .n) (c .args .buf .now) (d .failed)
-          (λ w l m z f. both-ways (d .failed) w (c .if-self .taken));
+          begins-elsewhere (d .places .now) (d .size) (c .args .n) (c .args .buf .now) (d .failed) _
+          (λ w l m. both-ways (d .failed) w (c .if-self .taken));
       table = refl;
     }
 
@@ -55,7 +55,7 @@ returns-then-is-zero c =
           sparse-write xs _ (d .size) (d .geometry) (d .failed) (c .args .n) (c .args .buf .now) (c .if-self .left) (p .1) (p .0)
           (ap (sparse-sectors (d .size)) e ∙ sectors-given-back (d .size) (c .args .n) xs
           ∙ ap (λ (v : List ℕ). set (sparse-sectors (d .size) xs) (c .args .n) v) (sym z));
-      begins = begins-not xs (d .size) (c .args .n) (c .args .buf .now) (d .failed) (λ w l m o f. o z);
+      begins = begins-not xs (d .size) (c .args .n) (c .args .buf .now) (d .failed) (λ o f. o z);
       table = record { of-zeros = λ _. e; of-others = λ o. absurd (o z) };
     }
 
@@ -79,7 +79,7 @@ returns-in-Some c =
       writes = λ s.
           sparse-write xs _ (d .size) (d .geometry) (d .failed) n b (c .if-self .left) (p .1) (p .0)
           (ap (sparse-sectors (d .size)) e ∙ sectors-placed (d .size) i n xs b place);
-      begins = begins-not xs (d .size) n b (d .failed) (λ w l m z f. not-full xs n i place f);
+      begins = begins-not xs (d .size) n b (d .failed) (λ z f. not-full xs n i place f);
       table = record { of-zeros = λ z. absurd (o z); of-others = λ _. (i, place, e) };
     }
 
@@ -93,6 +93,6 @@ returns-in-None c =
       faults = λ s a k f z. z;
       writes = λ s.
           sparse-write-refused (d .places .now) (d .size) (d .geometry) (d .failed) _ (c .args .n) _ _ refl (c .new-in-None .ensures) (p .1) (p .0);
-      begins = record { only-then = λ w v. (p .0, p .1, o, c .in-None .ensures tt); always-then = λ w l m z f. refl };
+      begins = begins-here (d .places .now) (d .size) (c .args .n) (c .args .buf .now) (d .failed) _ (c .new-in-None .ensures) (p .0) (p .1) o (c .in-None .ensures tt);
       table = refl;
     }
