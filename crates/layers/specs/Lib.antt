@@ -1,0 +1,3 @@
+pub mod Counting
+pub mod Layer
+pub mod Window

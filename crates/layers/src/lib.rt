@@ -1,0 +1,13 @@
+// Layers: devices that stand on another device. Each refuses wrong lengths and ranges itself, at level 0, and passes
+// the refusals of the device beneath on, one level up.
+
+// Some sectors of a device, as a device.
+pub mod window;
+// A device that counts the transfers.
+pub mod counting;
+
+pub use counting::Counting;
+pub use counting::CountingSectors;
+pub use window::Window;
+pub use window::WindowSectors;
+pub use window::is_window;
