@@ -3,9 +3,13 @@
 
 // Some sectors of a device, as a device.
 pub mod window;
+// A device that keeps up to four sectors in memory, and writes through.
+pub mod cache;
 // A device that counts the transfers.
 pub mod counting;
 
+pub use cache::Cache;
+pub use cache::CacheSectors;
 pub use counting::Counting;
 pub use counting::CountingSectors;
 pub use window::Window;
