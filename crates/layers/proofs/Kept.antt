@@ -2,6 +2,7 @@
 use mathlib.Core.Path.{_≡_, refl, sym, _∙_, ap, subst}
 use mathlib.Core.List.{List, []}
 use mathlib.Core.Logic.{inl, inr, _≢_}
+use mathlib.Core.Bool.{Bool, true, false}
 use Prim.Native.Nat.{ℕ, _<_, _≤_}
 use native.Mathlib.Omega.{arith}
 use lib.ListN.{length, getD, set}
@@ -9,11 +10,15 @@ use Rattle.std.proofs.shelf.Tests.{cases-eq}
 use Rattle.std.proofs.shelf.Lists.{length-set, getD-set-same, getD-set-other}
 use Rattle.std.specs.declared.option.Option.{Option}
 use Rattle.std.specs.declared.option.Option.the-variants.{Some, None}
+use Rattle.std.specs.Results.{isOk}
+use Rattle.std.specs.declared.result.Result.{Result}
 use Rattle.std.specs.declared.result.Result.the-variants.{Ok, Err}
 use Rattle.device.specs.Faults.{Faults}
 use Rattle.device.specs.Meaning.{Meaning, sector}
 use Rattle.device.specs.Transfers.{Reads, Writes}
-use Rattle.layers.specs.Cache.{In-place, Kept, Kept-too, True-of}
+use Rattle.device.specs.declared.faults.Fault.{Fault}
+use Rattle.layers.specs.Layer.{passed-answer}
+use Rattle.layers.specs.Cache.{In-place, Kept, Kept-too, Followed, True-of}
 use Rattle.layers.specs.declared.cache.Entry.{Entry}
 
 below : {j n i : ℕ} → n ≤ i → j < n → j < i
@@ -56,7 +61,7 @@ kept-read {n = n} {b′ = b′} xs k h l =
     }
 
 -- after an accepted read, with its sector kept
-pub true-after-read : {t : Faults} {m m′ : Meaning} {n : ℕ} {b b′ : List ℕ} {u : Unit {0}} (xs ys : List (Option Entry)) →
+true-after-read : {t : Faults} {m m′ : Meaning} {n : ℕ} {b b′ : List ℕ} {u : Unit {0}} (xs ys : List (Option Entry)) →
     True-of m xs → Kept-too xs ys n b′ → length b ≡ 512 → n < length (m .sectors) → Reads t m m′ n b b′ (Ok u) → True-of m′ ys
 true-after-read {m = m} {n = n} xs ys k too l h r =
     let a = r .otherwise l h in
@@ -68,7 +73,7 @@ true-after-read {m = m} {n = n} xs ys k too l h r =
     ])
 
 -- after an accepted write, with its sector kept
-pub true-after-write : {t : Faults} {m m′ : Meaning} {n : ℕ} {b : List ℕ} {u : Unit {0}} (xs ys : List (Option Entry)) →
+true-after-write : {t : Faults} {m m′ : Meaning} {n : ℕ} {b : List ℕ} {u : Unit {0}} (xs ys : List (Option Entry)) →
     True-of m xs → Kept-too xs ys n b → length b ≡ 512 → n < length (m .sectors) → Writes t m m′ n b (Ok u) → True-of m′ ys
 true-after-write {m = m} {n = n} {b = b} xs ys k too l h r =
     let a = r .otherwise l h in
@@ -84,3 +89,20 @@ true-after-write {m = m} {n = n} {b = b} xs ys k too l h r =
           let q = k j x (p .1) in
           (subst (λ (v : ℕ). j < v) (sym e) (q .0), q .1 ∙ sym (getD-set-other (m .sectors) n j b [] (p .0)), q .2)
     ])
+
+-- after a read that the device beneath answered with a, followed by the cache
+pub true-after-reads : {t : Faults} {m m′ : Meaning} {n : ℕ} {b b′ : List ℕ} (a : Result (Unit {0}) Fault) (xs ys : List (Option Entry)) →
+    True-of m xs → Followed xs ys n b′ (isOk a) → length b ≡ 512 → n < length (m .sectors) → Reads t m m′ n b b′ a → True-of m′ ys
+true-after-reads (Ok u) xs ys k too l h r = true-after-read xs ys k too l h r
+true-after-reads (Err f) xs ys k none l h r = λ n b here. absurd (none n b here)
+
+pub true-after-writes : {t : Faults} {m m′ : Meaning} {n : ℕ} {b : List ℕ} (a : Result (Unit {0}) Fault) (xs ys : List (Option Entry)) →
+    True-of m xs → Followed xs ys n b (isOk a) → length b ≡ 512 → n < length (m .sectors) → Writes t m m′ n b a → True-of m′ ys
+true-after-writes (Ok u) xs ys k too l h r = true-after-write xs ys k too l h r
+true-after-writes (Err f) xs ys k none l h r = λ n b here. absurd (none n b here)
+
+-- what was accepted is kept
+pub kept-after : (n : ℕ) (b : List ℕ) (a : Result (Unit {0}) Fault) (xs ys : List (Option Entry)) → Followed xs ys n b (isOk a) →
+    passed-answer a ≡ Ok tt → Kept ys n b
+kept-after n b (Ok u) xs ys too e = too .here
+kept-after n b (Err f) xs ys none e = absurd (let z : _≡_ {A = ℕ} 0 1 = cc in omega arith)

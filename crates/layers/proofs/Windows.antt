@@ -1,16 +1,18 @@
 -- The sectors of a window, and a read and a write of one of them.
-use mathlib.Core.Path.{_≡_, refl, sym, _∙_, ap}
+use mathlib.Core.Path.{_≡_, refl, sym, _∙_, ap, subst}
 use mathlib.Core.List.{List, [], _∷_}
 use mathlib.Core.Logic.{_⊎_, inl, inr}
 use Prim.Native.Nat.{ℕ, zero, suc, _+_, _<_, _≤_}
 use native.Mathlib.Omega.{arith}
 use lib.ListN.{length, getD, set, take, drop, length-drop}
 use Rattle.std.proofs.shelf.Lists.{length-set, getD-take, getD-drop, length-take-le, drop-set-add}
+use Rattle.std.specs.declared.result.Result.{Result}
 use Rattle.std.specs.declared.result.Result.the-variants.{Ok, Err}
-use Rattle.device.specs.Faults.{Faults, raised-fault, raised-faults}
+use Rattle.device.specs.Faults.{Faults, raised-faults}
 use Rattle.device.specs.Meaning.{Meaning, Sectors, Lawful, Bytes, with-sector, now-failed}
-use Rattle.device.specs.Transfers.{Reads, Writes, Old-or-new}
+use Rattle.device.specs.Transfers.{Reads, Writes, Read-answer, Write-answer, Old-or-new}
 use Rattle.device.specs.declared.faults.Fault.{Fault}
+use Rattle.layers.specs.Layer.{passed-answer}
 use Rattle.layers.specs.Window.{window-count, window-of}
 
 -- what the window has is there
@@ -81,54 +83,46 @@ past : (s : Sectors) (f k i : ℕ) → i < window-count (length s) f k →
     length (take (window-count (length s) f k) (drop f s)) ≤ i → ⊥
 past s f k i h o = omega (arith, length-window s f k)
 
--- an accepted read beneath, and a refused one
-pub window-read : {t : Faults} {m m′ : Meaning} (f k i : ℕ) {b b′ : List ℕ} {u v : Unit {0}} →
-    i < window-count (length (m .sectors)) f k → length b ≡ 512 → Reads t m m′ (f + i) b b′ (Ok u) →
-    Reads (raised-faults t (λ n. f + n)) (window-of m f k) (window-of m′ f k) i b b′ (Ok v)
-window-read {m = m} f k i h l r =
-    let a = r .otherwise l (there (m .sectors) f k i h) in
-    record {
-      wrong-length = λ ne. elim (ne l) [ ];
-      out-of-range = λ _ o. elim (past (m .sectors) f k i h o) [ ];
-      otherwise = λ _ _. (a .0, a .1 ∙ sym (getD-window (m .sectors) f k i h), ap (λ (x : Meaning). window-of x f k) (a .2));
-    }
+abbrev shown : (f k : ℕ) → Meaning → Meaning
+shown f k m = window-of m f k
 
-pub window-read-refused : {t : Faults} {m m′ : Meaning} (f k i : ℕ) {b b′ : List ℕ} {e x : Fault} →
-    i < window-count (length (m .sectors)) f k → length b ≡ 512 → x ≡ raised-fault e → Reads t m m′ (f + i) b b′ (Err e) →
-    Reads (raised-faults t (λ n. f + n)) (window-of m f k) (window-of m′ f k) i b b′ (Err x)
-window-read-refused {m = m} f k i {e = e} h l q r =
-    let a = r .otherwise l (there (m .sectors) f k i h) in
-    record {
-      wrong-length = λ ne. elim (ne l) [ ];
-      out-of-range = λ _ o. elim (past (m .sectors) f k i h o) [ ];
-      otherwise = λ _ _. (a .0, (e, a .1, q), a .2, ap (λ (x : Meaning). window-of x f k) (a .3));
-    }
+read-answer : (t : Faults) (m m′ : Meaning) (f k i : ℕ) (b b′ : List ℕ) (a : Result (Unit {0}) Fault) →
+    i < window-count (length (m .sectors)) f k → Read-answer t m m′ (f + i) b b′ a →
+    Read-answer (raised-faults t (λ n. f + n)) (window-of m f k) (window-of m′ f k) i b b′ (passed-answer a)
+read-answer t m m′ f k i b b′ (Ok u) h p = (p .0, p .1 ∙ sym (getD-window (m .sectors) f k i h), ap (shown f k) (p .2))
+read-answer t m m′ f k i b b′ (Err e) h p = (p .0, (e, p .1, refl), p .2, ap (shown f k) (p .3))
 
--- an accepted write beneath, and a refused one
-pub window-write : {t : Faults} {m m′ : Meaning} (f k i : ℕ) {b : List ℕ} {u v : Unit {0}} →
-    i < window-count (length (m .sectors)) f k → length b ≡ 512 → Writes t m m′ (f + i) b (Ok u) →
-    Writes (raised-faults t (λ n. f + n)) (window-of m f k) (window-of m′ f k) i b (Ok v)
-window-write {m = m} f k i {b = b} h l r =
-    let a = r .otherwise l (there (m .sectors) f k i h) in
-    record {
-      wrong-length = λ ne. elim (ne l) [ ];
-      out-of-range = λ _ o. elim (past (m .sectors) f k i h o) [ ];
-      otherwise = λ _ _. (a .0, ap (λ (x : Meaning). window-of x f k) (a .1) ∙ window-set m f k i b);
-    }
+-- a read of a sector of the window is a read beneath
+pub window-reads : {t : Faults} {m m′ : Meaning} (f k i : ℕ) {b b′ : List ℕ} {a r : Result (Unit {0}) Fault} →
+    r ≡ passed-answer a → i < window-count (length (m .sectors)) f k → length b ≡ 512 → Reads t m m′ (f + i) b b′ a →
+    Reads (raised-faults t (λ n. f + n)) (window-of m f k) (window-of m′ f k) i b b′ r
+window-reads {t = t} {m = m} {m′ = m′} f k i {b = b} {b′ = b′} {a = a} q h l p = record {
+  wrong-length = λ ne. elim (ne l) [ ];
+  out-of-range = λ _ o. elim (past (m .sectors) f k i h o) [ ];
+  otherwise = λ _ _.
+      subst (λ (x : Result (Unit {0}) Fault). Read-answer (raised-faults t (λ n. f + n)) (window-of m f k) (window-of m′ f k) i b b′ x)
+      (sym q) (read-answer t m m′ f k i b b′ a h (p .otherwise l (there (m .sectors) f k i h)));
+}
 
 old-or-new : (m m′ : Meaning) (f k i : ℕ) (b : List ℕ) → Old-or-new m m′ (f + i) b →
     Old-or-new (window-of m f k) (window-of m′ f k) i b
-old-or-new m m′ f k i b (inl e) = inl (ap (λ (x : Meaning). window-of x f k) e)
-old-or-new m m′ f k i b (inr p) =
-    inr (p .0, ap (λ (x : Meaning). window-of x f k) (p .1) ∙ ap now-failed (window-set m f k i b))
+old-or-new m m′ f k i b (inl e) = inl (ap (shown f k) e)
+old-or-new m m′ f k i b (inr p) = inr (p .0, ap (shown f k) (p .1) ∙ ap now-failed (window-set m f k i b))
 
-pub window-write-refused : {t : Faults} {m m′ : Meaning} (f k i : ℕ) {b : List ℕ} {e x : Fault} →
-    i < window-count (length (m .sectors)) f k → length b ≡ 512 → x ≡ raised-fault e → Writes t m m′ (f + i) b (Err e) →
-    Writes (raised-faults t (λ n. f + n)) (window-of m f k) (window-of m′ f k) i b (Err x)
-window-write-refused {m = m} {m′ = m′} f k i {b = b} {e = e} h l q r =
-    let a = r .otherwise l (there (m .sectors) f k i h) in
-    record {
-      wrong-length = λ ne. elim (ne l) [ ];
-      out-of-range = λ _ o. elim (past (m .sectors) f k i h o) [ ];
-      otherwise = λ _ _. (a .0, (e, a .1, q), old-or-new m m′ f k i b (a .2));
-    }
+write-answer : (t : Faults) (m m′ : Meaning) (f k i : ℕ) (b : List ℕ) (a : Result (Unit {0}) Fault) →
+    Write-answer t m m′ (f + i) b a →
+    Write-answer (raised-faults t (λ n. f + n)) (window-of m f k) (window-of m′ f k) i b (passed-answer a)
+write-answer t m m′ f k i b (Ok u) p = (p .0, ap (shown f k) (p .1) ∙ window-set m f k i b)
+write-answer t m m′ f k i b (Err e) p = (p .0, (e, p .1, refl), old-or-new m m′ f k i b (p .2))
+
+-- a write of a sector of the window is a write beneath
+pub window-writes : {t : Faults} {m m′ : Meaning} (f k i : ℕ) {b : List ℕ} {a r : Result (Unit {0}) Fault} →
+    r ≡ passed-answer a → i < window-count (length (m .sectors)) f k → length b ≡ 512 → Writes t m m′ (f + i) b a →
+    Writes (raised-faults t (λ n. f + n)) (window-of m f k) (window-of m′ f k) i b r
+window-writes {t = t} {m = m} {m′ = m′} f k i {b = b} {a = a} q h l p = record {
+  wrong-length = λ ne. elim (ne l) [ ];
+  out-of-range = λ _ o. elim (past (m .sectors) f k i h o) [ ];
+  otherwise = λ _ _.
+      subst (λ (x : Result (Unit {0}) Fault). Write-answer (raised-faults t (λ n. f + n)) (window-of m f k) (window-of m′ f k) i b x)
+      (sym q) (write-answer t m m′ f k i b a (p .otherwise l (there (m .sectors) f k i h)));
+}

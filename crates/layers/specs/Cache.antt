@@ -40,3 +40,8 @@ Found xs n b b′ false = (b′ ≡ b) × ((x : List ℕ) → Kept xs n x → �
 pub record Kept-too (xs ys : List (Option Entry)) (n : ℕ) (b : List ℕ) : Type 0 where
   pub here : Kept ys n b
   pub others : (k : ℕ) (x : List ℕ) → Kept ys k x → ((k ≡ n) × (x ≡ b)) ⊎ ((k ≢ n) × Kept xs k x)
+
+-- after a transfer of sector n with the bytes b: kept too if it was accepted, and otherwise nothing is kept
+abbrev pub Followed : (xs ys : List (Option Entry)) → ℕ → List ℕ → Bool → Type 0
+Followed xs ys n b true = Kept-too xs ys n b
+Followed xs ys n b false = Nothing-kept ys

@@ -8,7 +8,8 @@ ghost use Rattle.std.specs.declared.result.Result.the-variants.{Ok};
 ghost use Rattle.device.specs.Faults.{Within};
 ghost use Rattle.device.specs.Transfers.{Reads, Writes};
 ghost use Rattle.layers.specs.Layer.{passed-on};
-ghost use Rattle.layers.specs.Cache.{Kept, Nothing-kept, Cache-sound, Found, Kept-too};
+ghost use Rattle.layers.specs.Cache.{Kept, Nothing-kept, Cache-sound, Found, Kept-too, Followed};
+use crate::answers::passed_on;
 use device::Act;
 use device::Fault;
 use device::Geometry;
@@ -77,6 +78,18 @@ impl Entries {
         });
         self.next = at + 1;
     }
+
+    // Keeps sector n after an accepted transfer, and nothing at all after a refused one.
+    fn follow(&mut self, n: u32, bytes: &[u8], accepted: bool)
+        requires { ⌜ length (now bytes) ≡ 512 ⌝ }
+        ensures { λ _. ⌜ Followed (now (self .entry) .places) (now (self .exit) .places) n (now (bytes .entry)) accepted ⌝ }
+    {
+        if accepted {
+            self.keep(n, bytes);
+        } else {
+            *self = Entries::none();
+        }
+    }
 }
 
 #[derive(Drop)]
@@ -103,10 +116,10 @@ impl<D: SectorDevice> Cache<D> {
         ensures { λ r. ⌜ r ≡ self .beneath ⌝ }
     {
         let Cache {
-            beneath,
+            beneath: device,
             entries: _,
         } = self;
-        beneath
+        device
     }
 }
 
@@ -136,16 +149,9 @@ pub impl<D: SectorDevice> SectorDevice for Cache<D> as CacheSectors {
         if self.entries.find(n, buf) {
             return Ok(());
         }
-        match self.beneath.read(n, buf) {
-            Ok(()) => {
-                self.entries.keep(n, buf);
-                Ok(())
-            }
-            Err(fault) => {
-                self.entries = Entries::none();
-                Err(fault.raised())
-            }
-        }
+        let answer = self.beneath.read(n, buf);
+        self.entries.follow(n, buf, answer.is_ok());
+        passed_on(answer)
     }
 
     fn write(&mut self, n: u32, buf: &[u8]) -> Result<(), Fault>
@@ -155,15 +161,8 @@ pub impl<D: SectorDevice> SectorDevice for Cache<D> as CacheSectors {
         ensures keeps { λ r. ⌜ (r ≡ Ok tt → Kept (now (self .exit) .entries .places) n (now (buf .entry))) ⌝ }
     {
         check_transfer(Act::Write, n, self.beneath.size(), buf.len())?;
-        match self.beneath.write(n, buf) {
-            Ok(()) => {
-                self.entries.keep(n, buf);
-                Ok(())
-            }
-            Err(fault) => {
-                self.entries = Entries::none();
-                Err(fault.raised())
-            }
-        }
+        let answer = self.beneath.write(n, buf);
+        self.entries.follow(n, buf, answer.is_ok());
+        passed_on(answer)
     }
 }

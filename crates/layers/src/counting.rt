@@ -3,7 +3,8 @@ ghost use mathlib.Core.Path.{_≡_};
 ghost use Rattle.device.specs.Faults.{Within};
 ghost use Rattle.device.specs.Transfers.{Reads, Writes};
 ghost use Rattle.layers.specs.Layer.{passed-on};
-ghost use Rattle.layers.specs.Counting.{counted};
+ghost use Rattle.layers.specs.Counting.{one-more, counted};
+use crate::answers::passed_on;
 use device::Act;
 use device::Fault;
 use device::Geometry;
@@ -15,6 +16,13 @@ pub struct Counting<D: SectorDevice> {
     beneath: D,
     reads: u64,
     writes: u64,
+}
+
+// Moves a counter on, at most to 2^64 - 1.
+fn add_one(count: &mut u64)
+    ensures { λ _. ⌜ now (count .exit) ≡ one-more (now (count .entry)) ⌝ }
+{
+    *count = count.saturating_add(1);
 }
 
 impl<D: SectorDevice> Counting<D> {
@@ -37,11 +45,11 @@ impl<D: SectorDevice> Counting<D> {
         ensures { λ r. ⌜ r ≡ self .beneath ⌝ }
     {
         let Counting {
-            beneath,
+            beneath: device,
             reads: _,
             writes: _,
         } = self;
-        beneath
+        device
     }
 
     // How many reads were accepted, at most 2^64 - 1.
@@ -82,12 +90,12 @@ pub impl<D: SectorDevice> SectorDevice for Counting<D> as CountingSectors {
         ensures counted_writes { λ r. ⌜ now (self .exit) .writes ≡ now (self .entry) .writes ⌝ }
     {
         check_transfer(Act::Read, n, self.beneath.size(), buf.len())?;
-        match self.beneath.read(n, buf) {
+        match passed_on(self.beneath.read(n, buf)) {
             Ok(()) => {
-                self.reads = self.reads.saturating_add(1);
+                add_one(&mut self.reads);
                 Ok(())
             }
-            Err(fault) => Err(fault.raised()),
+            Err(fault) => Err(fault),
         }
     }
 
@@ -99,12 +107,12 @@ pub impl<D: SectorDevice> SectorDevice for Counting<D> as CountingSectors {
         ensures counted_writes { λ r. ⌜ now (self .exit) .writes ≡ counted (now (self .entry) .writes) r ⌝ }
     {
         check_transfer(Act::Write, n, self.beneath.size(), buf.len())?;
-        match self.beneath.write(n, buf) {
+        match passed_on(self.beneath.write(n, buf)) {
             Ok(()) => {
-                self.writes = self.writes.saturating_add(1);
+                add_one(&mut self.writes);
                 Ok(())
             }
-            Err(fault) => Err(fault.raised()),
+            Err(fault) => Err(fault),
         }
     }
 }

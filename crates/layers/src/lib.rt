@@ -1,6 +1,8 @@
 // Layers: devices that stand on another device. Each refuses wrong lengths and ranges itself, at level 0, and passes
 // the refusals of the device beneath on, one level up.
 
+// What a layer makes of the answers of the device beneath.
+mod answers;
 // Some sectors of a device, as a device.
 pub mod window;
 // A device that keeps up to four sectors in memory, and writes through.

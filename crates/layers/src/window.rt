@@ -6,6 +6,7 @@ ghost use Rattle.std.specs.Orderings.{Decides};
 ghost use Rattle.device.specs.Faults.{raised-faults};
 ghost use Rattle.device.specs.Meaning.{Lawful};
 ghost use Rattle.layers.specs.Window.{Is-window, window-count, window-of};
+use crate::answers::passed_on;
 use device::Act;
 use device::Fault;
 use device::Geometry;
@@ -47,11 +48,11 @@ impl<D: SectorDevice> Window<D> {
         ensures { λ r. ⌜ r ≡ self .beneath ⌝ }
     {
         let Window {
-            beneath,
+            beneath: device,
             first: _,
             count: _,
         } = self;
-        beneath
+        device
     }
 
     // The number of sectors, as the device beneath has them now.
@@ -85,17 +86,11 @@ pub impl<D: SectorDevice> SectorDevice for Window<D> as WindowSectors {
 
     fn read(&mut self, n: u32, buf: &mut [u8]) -> Result<(), Fault> {
         check_transfer(Act::Read, n, self.count_now(), buf.len())?;
-        match self.beneath.read(self.first + n, buf) {
-            Ok(()) => Ok(()),
-            Err(fault) => Err(fault.raised()),
-        }
+        passed_on(self.beneath.read(self.first + n, buf))
     }
 
     fn write(&mut self, n: u32, buf: &[u8]) -> Result<(), Fault> {
         check_transfer(Act::Write, n, self.count_now(), buf.len())?;
-        match self.beneath.write(self.first + n, buf) {
-            Ok(()) => Ok(()),
-            Err(fault) => Err(fault.raised()),
-        }
+        passed_on(self.beneath.write(self.first + n, buf))
     }
 }

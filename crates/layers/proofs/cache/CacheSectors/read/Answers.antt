@@ -1,10 +1,11 @@
-use mathlib.Core.Path.{_≡_, refl, subst, _∙_, ap}
+use mathlib.Core.Path.{_≡_, refl, subst, sym, _∙_, ap}
+use mathlib.Core.Bool.{Bool}
 use Prim.Native.Nat.{ℕ, _<_}
-use native.Mathlib.Omega.{arith}
 use lib.ListN.{length}
 use Rattle.device.proofs.Checks.{passed, raised-within}
-use Rattle.layers.proofs.Kept.{kept-read, true-after-read}
-use Rattle.layers.proofs.Passed.{passed-read, passed-read-refused}
+use Rattle.layers.specs.Cache.{Followed}
+use Rattle.layers.proofs.Kept.{kept-read, true-after-reads, kept-after}
+use Rattle.layers.proofs.Passed.{passed-reads}
 use Rattle.layers.proofs.cache.CacheSectors.read.Needs as need
 
 pub returns-then-find : need.returns-then-find
@@ -17,34 +18,22 @@ returns-then-find g c = record {
   keeps = λ e. c .if-find .ensures tt;
 }
 
-pub returns-in-Ok : need.returns-in-Ok
-returns-in-Ok g c =
-    let d = c .args .self .now in
-    let e = c .in-Ok .ensures tt in
+pub returns : need.returns
+returns g c =
+    let xs = c .args .self .now .entries .places in
+    let a = c .read-answer .result in
+    let e = c .read-answer .ensures in
     let p = passed (c .in-Continue-check-transfer .ensures tt) in
     let same = c .if-find .ensures tt .0 in
+    let followed = subst (λ (v : Bool). Followed xs (c .follow .last .self .places) (c .args .n) (c .read-answer .last .buf) v) (c .is-ok .ensures .value) (c .follow .ensures) in
     record {
       stays = λ s.
           let h = subst (λ (j : ℕ). c .args .n < j) (c .size .ensures .value (s .0)) (p .1) in
-          (e .stays (s .0), true-after-read (d .entries .places) _ (s .1) (c .keep .ensures) (ap length same ∙ p .0) h (e .reads (s .0)));
+          (e .stays (s .0), true-after-reads a xs _ (s .1) followed (ap length same ∙ p .0) h (e .reads (s .0)));
       faults = λ s. raised-within (λ n. n) (e .faults (s .0));
       reads = λ s.
           let h = subst (λ (j : ℕ). c .args .n < j) (c .size .ensures .value (s .0)) (p .1) in
-          passed-read same (p .0) h (e .reads (s .0));
+          passed-reads (c .passed-on .ensures) same (p .0) h (e .reads (s .0));
       untouched = λ b h. elim (c .if-find .ensures tt .1 b h) [ ];
-      keeps = λ _. c .keep .ensures .here;
-    }
-
-pub returns-in-Err : need.returns-in-Err
-returns-in-Err g c =
-    let e = c .in-Err .ensures tt in
-    let p = passed (c .in-Continue-check-transfer .ensures tt) in
-    record {
-      stays = λ s. (e .stays (s .0), λ n b h. elim (c .none-self .ensures n b h) [ ]);
-      faults = λ s. raised-within (λ n. n) (e .faults (s .0));
-      reads = λ s.
-          let h = subst (λ (j : ℕ). c .args .n < j) (c .size .ensures .value (s .0)) (p .1) in
-          passed-read-refused (c .if-find .ensures tt .0) (p .0) h (c .raised .ensures) (e .reads (s .0));
-      untouched = λ b h. elim (c .if-find .ensures tt .1 b h) [ ];
-      keeps = λ z. absurd (let i : _≡_ {A = ℕ} 0 1 = cc in omega arith);
+      keeps = λ ok. kept-after (c .args .n) (c .read-answer .last .buf) a xs _ followed (sym (c .passed-on .ensures) ∙ ok);
     }

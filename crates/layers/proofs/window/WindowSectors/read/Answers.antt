@@ -2,7 +2,7 @@ use mathlib.Core.Path.{subst, sym, _∙_}
 use Prim.Native.Nat.{ℕ, _+_, _<_}
 use Rattle.std.proofs.shelf.Results.{err-from-errBy}
 use Rattle.device.proofs.Checks.{passed, refused-read, raised-within}
-use Rattle.layers.proofs.Windows.{length-window, window-read, window-read-refused}
+use Rattle.layers.proofs.Windows.{length-window, window-reads}
 use Rattle.layers.proofs.window.WindowSectors.read.Needs as need
 
 pub returns-in-Break-check-transfer : need.returns-in-Break-check-transfer
@@ -17,26 +17,14 @@ returns-in-Break-check-transfer g c =
           rw (p .1, p .2) (refused-read (c .count-now .ensures .value s ∙ sym (length-window (m .sectors) (d .first) (d .count))) (c .in-Break-check-transfer .ensures tt));
     }
 
-pub returns-in-Ok : need.returns-in-Ok
-returns-in-Ok g c =
+pub returns : need.returns
+returns g c =
     let d = c .args .self .now in
     let p = passed (c .in-Continue-check-transfer .ensures tt) in
     record {
-      stays = λ s. c .in-Ok .ensures tt .stays s;
-      faults = λ s. raised-within (λ n. d .first + n) (c .in-Ok .ensures tt .faults s);
+      stays = λ s. c .read .ensures .stays s;
+      faults = λ s. raised-within (λ n. d .first + n) (c .read .ensures .faults s);
       reads = λ s.
           let h = subst (λ (j : ℕ). c .args .n < j) (c .count-now .ensures .value s) (p .1) in
-          window-read (d .first) (d .count) (c .args .n) h (p .0) (c .in-Ok .ensures tt .reads s);
-    }
-
-pub returns-in-Err : need.returns-in-Err
-returns-in-Err g c =
-    let d = c .args .self .now in
-    let p = passed (c .in-Continue-check-transfer .ensures tt) in
-    record {
-      stays = λ s. c .in-Err .ensures tt .stays s;
-      faults = λ s. raised-within (λ n. d .first + n) (c .in-Err .ensures tt .faults s);
-      reads = λ s.
-          let h = subst (λ (j : ℕ). c .args .n < j) (c .count-now .ensures .value s) (p .1) in
-          window-read-refused (d .first) (d .count) (c .args .n) h (p .0) (c .raised .ensures) (c .in-Err .ensures tt .reads s);
+          window-reads (d .first) (d .count) (c .args .n) (c .passed-on .ensures) h (p .0) (c .read .ensures .reads s);
     }
