@@ -8,12 +8,13 @@ use lib.ListN.{length, getD, set, take, drop, length-drop}
 use Rattle.std.proofs.shelf.Lists.{length-set, getD-take, getD-drop, length-take-le, drop-set-add}
 use Rattle.std.specs.declared.result.Result.{Result}
 use Rattle.std.specs.declared.result.Result.the-variants.{Ok, Err}
-use Rattle.device.specs.Faults.{Faults, raised-faults}
+use Rattle.device.specs.Faults.{Faults, raised-faults, Checks}
 use Rattle.device.specs.Meaning.{Meaning, Sectors, Lawful, Bytes, with-sector, now-failed}
 use Rattle.device.specs.Transfers.{Reads, Writes, Read-answer, Write-answer, Old-or-new}
+use Rattle.device.specs.declared.faults.Act.{Act}
 use Rattle.device.specs.declared.faults.Fault.{Fault}
 use Rattle.layers.specs.Layer.{passed-answer}
-use Rattle.layers.specs.Window.{window-count, window-of}
+use Rattle.layers.specs.Window.{window-count, window-of, Reads-beneath, Writes-beneath}
 
 -- what the window has is there
 count-fits : (s f k : ℕ) → (window-count s f k ≡ 0) ⊎ (f + window-count s f k ≤ s)
@@ -125,4 +126,46 @@ window-writes {t = t} {m = m} {m′ = m′} f k i {b = b} {a = a} q h l p = reco
   otherwise = λ _ _.
       subst (λ (x : Result (Unit {0}) Fault). Write-answer (raised-faults t (λ n. f + n)) (window-of m f k) (window-of m′ f k) i b x)
       (sym q) (write-answer t m m′ f k i b a (p .otherwise l (there (m .sectors) f k i h)));
+}
+
+apart : {a b : ℕ} → a ≤ b → b < a → ⊥
+apart h k = omega arith
+
+err-ok : {f : Fault} {u : Unit {0}} → _≡_ {A = Result (Unit {0}) Fault} (Err f) (Ok u) → ⊥
+err-ok e = let z : _≡_ {A = ℕ} 0 1 = cc in omega arith
+
+refused : {c : Act} {n s s′ k : ℕ} {f : Fault} → s ≡ s′ → Checks c n s k (Err f) → k ≡ 512 → n < s′ → ⊥
+refused {n = n} {s = s} e c l h = err-ok (c .otherwise l (let i : n < s = omega arith in i))
+
+-- what was asked of the device beneath: nothing, where the layer refused itself
+pub none-read-beneath : {c : Act} {t : Faults} {m : Meaning} {f k n s : ℕ} {b b′ : List ℕ} {e : Fault} {r : Result (Unit {0}) Fault} →
+    s ≡ window-count (length (m .sectors)) f k → Checks c n s (length b) (Err e) → Reads-beneath t m m f k n b b′ r
+none-read-beneath q c = record {
+  wrong-length = λ _. refl;
+  out-of-range = λ _ _. refl;
+  otherwise = λ l h. absurd (refused q c l h);
+}
+
+pub none-written-beneath : {c : Act} {t : Faults} {m : Meaning} {f k n s : ℕ} {b : List ℕ} {e : Fault} {r : Result (Unit {0}) Fault} →
+    s ≡ window-count (length (m .sectors)) f k → Checks c n s (length b) (Err e) → Writes-beneath t m m f k n b r
+none-written-beneath q c = record {
+  wrong-length = λ _. refl;
+  out-of-range = λ _ _. refl;
+  otherwise = λ l h. absurd (refused q c l h);
+}
+
+pub read-beneath : {t : Faults} {m m′ : Meaning} (f k i : ℕ) {b b′ : List ℕ} {a r : Result (Unit {0}) Fault} → r ≡ passed-answer a →
+    i < window-count (length (m .sectors)) f k → length b ≡ 512 → Reads t m m′ (f + i) b b′ a → Reads-beneath t m m′ f k i b b′ r
+read-beneath {m = m} f k i {a = a} q h l p = record {
+  wrong-length = λ ne. elim (ne l) [ ];
+  out-of-range = λ _ o. elim (apart o h) [ ];
+  otherwise = λ _ _. (a, q, p .otherwise l (there (m .sectors) f k i h));
+}
+
+pub written-beneath : {t : Faults} {m m′ : Meaning} (f k i : ℕ) {b : List ℕ} {a r : Result (Unit {0}) Fault} → r ≡ passed-answer a →
+    i < window-count (length (m .sectors)) f k → length b ≡ 512 → Writes t m m′ (f + i) b a → Writes-beneath t m m′ f k i b r
+written-beneath {m = m} f k i {a = a} q h l p = record {
+  wrong-length = λ ne. elim (ne l) [ ];
+  out-of-range = λ _ o. elim (apart o h) [ ];
+  otherwise = λ _ _. (a, q, p .otherwise l (there (m .sectors) f k i h));
 }

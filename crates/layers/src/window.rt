@@ -3,9 +3,10 @@ ghost use mathlib.Core.Path.{_≡_};
 ghost use Prim.Native.Nat.{_+_, _<_};
 ghost use lib.ListN.{length};
 ghost use Rattle.std.specs.Orderings.{Decides};
-ghost use Rattle.device.specs.Faults.{raised-faults};
+ghost use Rattle.device.specs.Faults.{raised-faults, Within};
 ghost use Rattle.device.specs.Meaning.{Lawful};
-ghost use Rattle.layers.specs.Window.{Is-window, window-count, window-of};
+ghost use Rattle.device.specs.Transfers.{Reads, Writes};
+ghost use Rattle.layers.specs.Window.{Is-window, window-count, window-of, Reads-beneath, Writes-beneath};
 use crate::answers::passed_on;
 use device::Act;
 use device::Fault;
@@ -84,12 +85,26 @@ pub impl<D: SectorDevice> SectorDevice for Window<D> as WindowSectors {
         self.beneath.geometry()
     }
 
-    fn read(&mut self, n: u32, buf: &mut [u8]) -> Result<(), Fault> {
+    fn read(&mut self, n: u32, buf: &mut [u8]) -> Result<(), Fault>
+        ensures stays { λ r. ⌜ (D·SectorDevice .sound (now (self .entry) .beneath) → D·SectorDevice .sound (now (self .exit) .beneath)) ⌝ }
+        ensures faults { λ r. ⌜ (D·SectorDevice .sound (now (self .entry) .beneath) → Within (raised-faults (D·SectorDevice .faults (now (self .exit) .beneath)) (λ k. now (self .exit) .first + k)) (raised-faults (D·SectorDevice .faults (now (self .entry) .beneath)) (λ k. now (self .entry) .first + k))) ⌝ }
+        ensures reads { λ r. ⌜ (D·SectorDevice .sound (now (self .entry) .beneath) → Reads (raised-faults (D·SectorDevice .faults (now (self .entry) .beneath)) (λ k. now (self .entry) .first + k)) (window-of (D·SectorDevice .meaning (now (self .entry) .beneath)) (now (self .entry) .first) (now (self .entry) .count)) (window-of (D·SectorDevice .meaning (now (self .exit) .beneath)) (now (self .exit) .first) (now (self .exit) .count)) n (now (buf .entry)) (now (buf .exit)) r) ⌝ }
+        ensures beneath { λ r. ⌜ (D·SectorDevice .sound (now (self .entry) .beneath) → Reads-beneath (D·SectorDevice .faults (now (self .entry) .beneath)) (D·SectorDevice .meaning (now (self .entry) .beneath)) (D·SectorDevice .meaning (now (self .exit) .beneath)) (now (self .entry) .first) (now (self .entry) .count) n (now (buf .entry)) (now (buf .exit)) r) ⌝ }
+        ensures first { λ r. ⌜ now (self .exit) .first ≡ now (self .entry) .first ⌝ }
+        ensures count { λ r. ⌜ now (self .exit) .count ≡ now (self .entry) .count ⌝ }
+    {
         check_transfer(Act::Read, n, self.count_now(), buf.len())?;
         passed_on(self.beneath.read(self.first + n, buf))
     }
 
-    fn write(&mut self, n: u32, buf: &[u8]) -> Result<(), Fault> {
+    fn write(&mut self, n: u32, buf: &[u8]) -> Result<(), Fault>
+        ensures stays { λ r. ⌜ (D·SectorDevice .sound (now (self .entry) .beneath) → D·SectorDevice .sound (now (self .exit) .beneath)) ⌝ }
+        ensures faults { λ r. ⌜ (D·SectorDevice .sound (now (self .entry) .beneath) → Within (raised-faults (D·SectorDevice .faults (now (self .exit) .beneath)) (λ k. now (self .exit) .first + k)) (raised-faults (D·SectorDevice .faults (now (self .entry) .beneath)) (λ k. now (self .entry) .first + k))) ⌝ }
+        ensures writes { λ r. ⌜ (D·SectorDevice .sound (now (self .entry) .beneath) → Writes (raised-faults (D·SectorDevice .faults (now (self .entry) .beneath)) (λ k. now (self .entry) .first + k)) (window-of (D·SectorDevice .meaning (now (self .entry) .beneath)) (now (self .entry) .first) (now (self .entry) .count)) (window-of (D·SectorDevice .meaning (now (self .exit) .beneath)) (now (self .exit) .first) (now (self .exit) .count)) n (now (buf .entry)) r) ⌝ }
+        ensures beneath { λ r. ⌜ (D·SectorDevice .sound (now (self .entry) .beneath) → Writes-beneath (D·SectorDevice .faults (now (self .entry) .beneath)) (D·SectorDevice .meaning (now (self .entry) .beneath)) (D·SectorDevice .meaning (now (self .exit) .beneath)) (now (self .entry) .first) (now (self .entry) .count) n (now (buf .entry)) r) ⌝ }
+        ensures first { λ r. ⌜ now (self .exit) .first ≡ now (self .entry) .first ⌝ }
+        ensures count { λ r. ⌜ now (self .exit) .count ≡ now (self .entry) .count ⌝ }
+    {
         check_transfer(Act::Write, n, self.count_now(), buf.len())?;
         passed_on(self.beneath.write(self.first + n, buf))
     }

@@ -4,3 +4,4 @@
 pub mod window_cache_image;
 
 pub use window_cache_image::write_and_read;
+pub use window_cache_image::write_through;

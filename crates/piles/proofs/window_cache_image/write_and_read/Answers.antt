@@ -4,7 +4,8 @@ use denote.Ref.{now}
 use Rattle.std.proofs.shelf.Results.{err-from-errBy}
 use Rattle.device.proofs.Zeros.{length-zeros}
 use Rattle.layers.specs.Cache.{Nothing-kept}
-use Rattle.piles.proofs.Steady.{length-pile, write-refused, read-refused, read-back}
+use Rattle.piles.specs.WindowCacheImage.{pile-count, Reads-back}
+use Rattle.piles.proofs.Steady.{length-pile, in-pile, write-refused, read-refused, read-back}
 use Rattle.piles.proofs.window_cache_image.write_and_read.Needs as need
 
 pub returns-in-Break-write : need.returns-in-Break-write
@@ -14,7 +15,9 @@ returns-in-Break-write c =
     let none : Nothing-kept (p .beneath .entries .places) = subst (λ x. Nothing-kept (x .entries .places)) (sym (c .new-pile .ensures .beneath)) (c .new .ensures .entries) in
     let size = length-pile _ _ _ _ _ _ bytes (c .new-pile .ensures .first) (c .new-pile .ensures .count) in
     let q = err-from-errBy (c .from-residual .result) (c .from-residual .ensures .1) in
-    rw (q .1, q .2) (write-refused refl size (c .in-Break-write .ensures tt .writes (tt, λ n b h. absurd (none n b h))))
+    let back : Reads-back (pile-count (length (c .args .bytes .now)) (c .args .first) (c .args .count)) (c .args .n) (c .args .written .now) (c .from-residual .result) =
+    rw (q .1, q .2) (write-refused refl size (c .in-Break-write .ensures tt .writes (tt, λ n b h. absurd (none n b h)))) in
+    record { answers = back; lawful = λ h l. back .otherwise l (in-pile h) }
 
 pub returns-in-Break-read : need.returns-in-Break-read
 returns-in-Break-read c =
@@ -30,4 +33,7 @@ returns c =
     let none : Nothing-kept (p .beneath .entries .places) = subst (λ x. Nothing-kept (x .entries .places)) (sym (c .new-pile .ensures .beneath)) (c .new .ensures .entries) in
     let size = length-pile _ _ _ _ _ _ bytes (c .new-pile .ensures .first) (c .new-pile .ensures .count) in
     let w = c .in-Continue-write .ensures tt in
-    read-back size (ap length (c .zero-sector-sector .ensures) ∙ length-zeros 512) (w .writes (tt, λ n b h. absurd (none n b h))) (c .in-Continue-read .ensures tt .reads (w .stays (tt, λ n b h. absurd (none n b h))))
+    let back =
+    read-back size (ap length (c .zero-sector-sector .ensures) ∙ length-zeros 512) (w .writes (tt, λ n b h. absurd (none n b h)))
+    (c .in-Continue-read .ensures tt .reads (w .stays (tt, λ n b h. absurd (none n b h)))) in
+    record { answers = back; lawful = λ h l. back .otherwise l (in-pile h) }

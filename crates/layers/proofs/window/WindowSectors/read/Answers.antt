@@ -1,8 +1,8 @@
-use mathlib.Core.Path.{subst, sym, _∙_}
+use mathlib.Core.Path.{refl, subst, sym, _∙_}
 use Prim.Native.Nat.{ℕ, _+_, _<_}
 use Rattle.std.proofs.shelf.Results.{err-from-errBy}
 use Rattle.device.proofs.Checks.{passed, refused-read, raised-within}
-use Rattle.layers.proofs.Windows.{length-window, window-reads}
+use Rattle.layers.proofs.Windows.{length-window, none-read-beneath, read-beneath, window-reads}
 use Rattle.layers.proofs.window.WindowSectors.read.Needs as need
 
 pub returns-in-Break-check-transfer : need.returns-in-Break-check-transfer
@@ -15,6 +15,9 @@ returns-in-Break-check-transfer g c =
       faults = λ s a n f q. q;
       reads = λ s.
           rw (p .1, p .2) (refused-read (c .count-now .ensures .value s ∙ sym (length-window (m .sectors) (d .first) (d .count))) (c .in-Break-check-transfer .ensures tt));
+      beneath = λ s. none-read-beneath (c .count-now .ensures .value s) (c .in-Break-check-transfer .ensures tt);
+      first = refl;
+      count = refl;
     }
 
 pub returns : need.returns
@@ -27,4 +30,9 @@ returns g c =
       reads = λ s.
           let h = subst (λ (j : ℕ). c .args .n < j) (c .count-now .ensures .value s) (p .1) in
           window-reads (d .first) (d .count) (c .args .n) (c .passed-on .ensures) h (p .0) (c .read .ensures .reads s);
+      beneath = λ s.
+          let h = subst (λ (j : ℕ). c .args .n < j) (c .count-now .ensures .value s) (p .1) in
+          read-beneath (d .first) (d .count) (c .args .n) (c .passed-on .ensures) h (p .0) (c .read .ensures .reads s);
+      first = refl;
+      count = refl;
     }
