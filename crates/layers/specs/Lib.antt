@@ -1,0 +1,4 @@
+pub mod Cache
+pub mod Counting
+pub mod Layer
+pub mod Window

@@ -1,0 +1,7 @@
+// Piles: layers over a device that keeps its sectors, and what holds of them with nothing asked beforehand.
+
+// A window over a cache over an image.
+pub mod window_cache_image;
+
+pub use window_cache_image::write_and_read;
+pub use window_cache_image::write_through;
