@@ -1,17 +1,17 @@
 -- The table of a sparse card: what its places make of the sectors, and what a write does to them.
 use mathlib.Core.Path.{_≡_, refl, sym, _∙_, ap, subst}
 use mathlib.Core.List.{List, [], _∷_, map}
-use mathlib.Core.Logic.{_⊎_, inl, inr, _≢_}
+use mathlib.Core.Logic.{inl, inr}
 use mathlib.Core.Bool.{Bool, true, false, cond}
-use Prim.Native.Nat.{ℕ, zero, suc, _+_, _<_, _≤_}
+use Prim.Native.Nat.{ℕ, zero, suc, _<_, _≤_}
 use native.Mathlib.Omega.{arith}
 use lib.Dec.{eqb}
 use lib.ListN.{length, getD, set, replicate}
-use Rattle.std.proofs.shelf.Tests.{cases-eq, cases-lt, eqb-true, eqb-false, cond-true, cond-false}
+use Rattle.std.proofs.shelf.Tests.{cases-eq, cases-lt, eqb-true, eqb-false}
 use Rattle.std.proofs.shelf.Lists.{length-set, length-map, length-replicate, getD-set-same, getD-set-other, getD-past, getD-replicate, set-set, set-comm, ext-getD}
 use Rattle.std.specs.declared.option.Option.{Option}
 use Rattle.std.specs.declared.option.Option.the-variants.{Some, None}
-use Rattle.device.specs.Meaning.{Bytes, zeros}
+use Rattle.device.specs.Meaning.{zeros}
 use Rattle.stores.specs.declared.kept.KeptSector.{KeptSector}
 use Rattle.stores.specs.Sparse.{Places, sparse-sectors, Kept-in, Kept-sound, Place-sound, Sparse-sound, Place-for, Full, Slot, given-back}
 

@@ -1,7 +1,7 @@
 -- Reads and writes of a sparse card.
-use mathlib.Core.Path.{_≡_, refl, sym, _∙_, ap, subst}
+use mathlib.Core.Path.{_≡_, refl, sym, ap, subst}
 use mathlib.Core.List.{List, []}
-use mathlib.Core.Logic.{_⊎_, inl, inr, _≢_}
+use mathlib.Core.Logic.{inl, inr, _≢_}
 use mathlib.Core.Bool.{Bool, true, false, cond}
 use Prim.Native.Nat.{ℕ, _<_, _≤_}
 use native.Mathlib.Omega.{arith}
@@ -11,7 +11,7 @@ use Rattle.std.proofs.shelf.Lists.{getD-past}
 use Rattle.std.specs.declared.result.Result.{Result}
 use Rattle.std.specs.declared.result.Result.the-variants.{Ok, Err}
 use Rattle.device.specs.Faults.{fault, Checks}
-use Rattle.device.specs.Meaning.{Meaning, Sectors, Bytes, Lawful, MayRefuse, zeros, well, failed}
+use Rattle.device.specs.Meaning.{Sectors, Bytes, Lawful, MayRefuse, zeros, well, failed}
 use Rattle.device.specs.Transfers.{Reads, Writes}
 use Rattle.device.specs.declared.faults.Fault.{Fault}
 use Rattle.device.specs.declared.faults.Geometry.{Geometry}

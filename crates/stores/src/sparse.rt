@@ -1,16 +1,16 @@
 // The sparse card: some sectors in a table of places that the caller lends, the others zeros. It is well until a
 // write finds no place for its sector, and from then on it refuses everything.
 ghost use mathlib.Core.Path.{_≡_};
-ghost use mathlib.Core.List.{List, [], map};
-ghost use mathlib.Core.Bool.{Bool, true, false};
-ghost use Prim.Native.Nat.{ℕ, _<_, _≤_};
+ghost use mathlib.Core.List.{[], map};
+ghost use mathlib.Core.Bool.{true, false};
+ghost use Prim.Native.Nat.{_<_};
 ghost use lib.ListN.{length, getD, replicate};
 ghost use denote.Ref.{now};
 ghost use Rattle.std.specs.Orderings.{Decides};
 ghost use Rattle.std.specs.declared.option.Option.the-variants.{None};
 ghost use Rattle.std.specs.declared.result.Result.the-variants.{Ok};
 ghost use Rattle.device.specs.Faults.{Within};
-ghost use Rattle.device.specs.Meaning.{Meaning, zeros, well};
+ghost use Rattle.device.specs.Meaning.{zeros, well};
 ghost use Rattle.device.specs.Transfers.{Reads, Writes};
 ghost use Rattle.stores.specs.Sparse.{Sparse-size, sparse-count, sparse-sectors, sparse-of, sparse-faults, Sparse-sound, given-back, Slot, Table-after, Begins};
 use crate::kept::KeptSector;
@@ -45,6 +45,7 @@ fn count_of(sectors: u32) -> u32
     if sectors <= 268_435_456 { sectors } else { 0 }
 }
 
+// Whether these bytes are a sector of zeros.
 fn is_zero(buf: &[u8]) -> bool
     ensures { λ r. ⌜ Decides r (now (buf .entry) ≡ zeros 512) ⌝ }
 {

@@ -2,7 +2,7 @@ use mathlib.Core.Path.{_≡_, refl, sym, subst, _∙_, ap}
 use lib.ListN.{length, replicate}
 use Prim.Native.Nat.{ℕ, _≤_}
 use borrow.Author.Needs.{needs}
-use Rattle.std.specs.declared.option.Option.the-variants.{Some, None}
+use Rattle.std.specs.declared.option.Option.the-variants.{None}
 use Rattle.device.specs.Meaning.{Sectors, zeros, well}
 use Rattle.stores.specs.Sparse.{Places, sparse-sectors, Sparse-sound}
 use Rattle.stores.proofs.SparseTables.{sectors-free, sound-free}

@@ -1,7 +1,7 @@
 use native.Mathlib.Omega.{arith}
 use lib.ListN.{getD}
 use borrow.Author.Needs.{needs}
-use Rattle.std.specs.declared.option.Option.the-variants.{Some, None}
+use Rattle.std.specs.declared.option.Option.the-variants.{None}
 use Rattle.stores.specs.Sparse.{Kept-in}
 use Rattle.stores.proofs.SparseTables.{slot-of, slot-kept}
 use Rattle.stores.proofs.sparse.SparseDevice.place_for.Needs as need

@@ -1,7 +1,7 @@
 use Prim.Native.Nat.{ℕ, _<_}
 use lib.ListN.{getD}
 use denote.Ref.{now}
-use Rattle.std.specs.declared.option.Option.the-variants.{Some, None}
+use Rattle.std.specs.declared.option.Option.the-variants.{None}
 use Rattle.stores.specs.Sparse.{Kept-in}
 use Rattle.stores.proofs.SparseTables.{Free}
 use Rattle.stores.proofs.sparse.SparseDevice.place_for.Given as given
