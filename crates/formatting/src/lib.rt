@@ -6,6 +6,7 @@ ghost use Rattle.device.specs.Calls.{Keeps, Of-sound};
 ghost use Rattle.runs.specs.Writes.{Written};
 ghost use Rattle.formatting.specs.Format.{format-writes, new-label, Formats, Leaves, Reads-label};
 use device::Fault;
+use device::LentSectors;
 use device::SectorDevice;
 use device::zero_sector;
 use layout::DiskId;

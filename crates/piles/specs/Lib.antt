@@ -1,1 +1,2 @@
 pub mod WindowCacheImage
+pub mod WindowCacheSparse

@@ -2,6 +2,9 @@
 
 // A window over a cache over an image.
 pub mod window_cache_image;
+// A window over a cache over a sparse card.
+pub mod window_cache_sparse;
 
 pub use window_cache_image::write_and_read;
 pub use window_cache_image::write_through;
+pub use window_cache_sparse::write_to_sparse;
