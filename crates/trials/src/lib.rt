@@ -4,3 +4,5 @@
 mod manual;
 // Bad input for format and the label.
 mod bad_input;
+// Piles of devices.
+mod layers_over;

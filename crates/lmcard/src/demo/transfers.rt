@@ -1,10 +1,9 @@
 // Transfers of whole sectors, printed with their answers.
 use crate::failure::Failure;
-use crate::failure::FailureDisplay;
 use crate::failure::FailureFromIo;
+use device::Fault;
 use device::SectorDevice;
 use device::zero_sector;
-use refusals::Refusal;
 
 // Writes a sector full of one byte.
 pub(crate) fn write<D: SectorDevice>(
@@ -15,12 +14,10 @@ pub(crate) fn write<D: SectorDevice>(
 ) -> Result<(), Failure> {
     let mut sector = zero_sector();
     sector.fill(byte);
+    print!(rt, "write sector {n}, all ${byte:02X}: ")?;
     match device.write(n, &sector) {
-        Ok(()) => println!(rt, "write sector {n}, all ${byte:02X}: ok")?,
-        Err(fault) => {
-            let failure = Failure::Refused(Refusal::Device(fault));
-            println!(rt, "write sector {n}, all ${byte:02X}: {failure}")?
-        }
+        Ok(()) => println!(rt, "ok")?,
+        Err(fault) => show_fault(rt, fault)?,
     }
     Ok(())
 }
@@ -32,12 +29,22 @@ pub(crate) fn read<D: SectorDevice>(
     n: u32,
 ) -> Result<(), Failure> {
     let mut sector = zero_sector();
+    print!(rt, "read sector {n}: ")?;
     match device.read(n, &mut sector) {
-        Ok(()) => println!(rt, "read sector {n}: ok, begins with ${:02X}", sector[0])?,
-        Err(fault) => {
-            let failure = Failure::Refused(Refusal::Device(fault));
-            println!(rt, "read sector {n}: {failure}")?
-        }
+        Ok(()) => println!(rt, "ok, begins with ${:02X}", sector[0])?,
+        Err(fault) => show_fault(rt, fault)?,
     }
+    Ok(())
+}
+
+fn show_fault(rt: &LibcRuntime, fault: Fault) -> Result<(), Failure> {
+    let cause = fault.cause.number();
+    let act = fault.act.number();
+    let sector = fault.sector;
+    let level = fault.level;
+    println!(
+        rt,
+        "refused, cause {cause}, act {act}, sector {sector}, level {level}"
+    )?;
     Ok(())
 }
