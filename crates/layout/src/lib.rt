@@ -3,7 +3,7 @@
 // Runs of bytes: equal or not.
 mod bytes;
 // Words and double words in a run of bytes.
-mod words;
+pub mod words;
 // Where everything lies on a card of so many sectors.
 pub mod sizes;
 // Sectors for a number of bytes.

@@ -20,18 +20,33 @@ mod tests {
             level: 2,
         };
         let mut places = [];
-        check_eq(write_to_sparse(&mut places, 200, 100, 8, 5, &[1; 512]), Err(want))?;
-        check_eq(write_to_sparse(&mut places, 200, 100, 8, 5, &[0; 512]), Ok(()))
+        check_eq(
+            write_to_sparse(&mut places, 200, 100, 8, 5, &[1; 512]),
+            Err(want),
+        )?;
+        check_eq(
+            write_to_sparse(&mut places, 200, 100, 8, 5, &[0; 512]),
+            Ok(()),
+        )
     }
 
     #[test]
     fn refused_by_the_window() -> Result<(), Fail> {
         let want = Fault::new(Cause::Range, Act::Write, 8);
         let mut places = [];
-        check_eq(write_to_sparse(&mut places, 200, 100, 8, 8, &[1; 512]), Err(want))?;
-        check_eq(write_to_sparse(&mut places, 107, 100, 8, 8, &[1; 512]), Err(want))?;
+        check_eq(
+            write_to_sparse(&mut places, 200, 100, 8, 8, &[1; 512]),
+            Err(want),
+        )?;
+        check_eq(
+            write_to_sparse(&mut places, 107, 100, 8, 8, &[1; 512]),
+            Err(want),
+        )?;
         let short = Fault::new(Cause::Length, Act::Write, 8);
-        check_eq(write_to_sparse(&mut places, 200, 100, 8, 8, &[1; 511]), Err(short))
+        check_eq(
+            write_to_sparse(&mut places, 200, 100, 8, 8, &[1; 511]),
+            Err(short),
+        )
     }
 
     #[test]

@@ -2,6 +2,10 @@
 #[cfg(test)]
 mod tests {
     use device::Geometry;
+    use entries::Entry;
+    use entries::EntryState;
+    use entries::state::EntryStateDebug;
+    use entries::state::EntryStatePartialEq;
     use layout::Label;
     use layout::Layout;
     use layout::extent;
@@ -91,6 +95,61 @@ mod tests {
             check_eq(*b, want)?;
         }
         check(Label::read(&sector, 501_760) == Ok(testdisk()))
+    }
+
+    // The manual's example of an entry.
+    const MARIO: [u8; 32] = [
+        0x4D,
+        0x41,
+        0x52,
+        0x49,
+        0x4F,
+        0x20,
+        0x20,
+        0x20,
+        0x20,
+        0x20,
+        0x20,
+        0x20,
+        0x20,
+        0x20,
+        0x20,
+        0x20,
+        0x80,
+        0x00,
+        0x00,
+        0x00,
+        0x00,
+        0x00,
+        0xF6,
+        0x00,
+        0x37,
+        0x00,
+        0x01,
+        0x07,
+        0x5E,
+        0x00,
+        0x00,
+        0x00,
+    ];
+
+    #[test]
+    fn entry() -> Result<(), Fail> {
+        let mario = Entry::decode(&MARIO);
+        check_eq(mario.name, *b"MARIO           ")?;
+        check_eq(mario.kind, 0x80)?;
+        check_eq(mario.slot, 0)?;
+        check_eq(mario.first, 246)?;
+        check_eq(mario.size, 55)?;
+        check_eq(mario.sectors, 1)?;
+        check_eq(mario.address, 0x5E07)?;
+        check_eq(mario.encode(), MARIO)?;
+        check_eq(mario.state(&Layout::of(501_760), 0), EntryState::Live)?;
+        check_eq(mario.state(&Layout::of(501_760), 1), EntryState::Damaged)?;
+        check_eq(
+            mario.with_first(0x7F).state(&Layout::of(501_760), 0),
+            EntryState::Erased,
+        )
     }
 
     #[test]
