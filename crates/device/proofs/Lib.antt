@@ -1,2 +1,3 @@
+pub mod ByteLists
 pub mod Checks
 pub mod Zeros

@@ -12,9 +12,10 @@ use lib.Dec.{eqb, leb}
 use lib.ListN.{length, getD, set, take, drop, length-drop}
 use Rattle.std.specs.Holes.{between}
 use Rattle.std.proofs.shelf.Tests.{cases-eq}
-use Rattle.std.proofs.shelf.Lists.{length-append, length-set, getD-drop, getD-set-same, getD-set-other, drop-drop, length-take-le, ext-getD, take-take}
+use Rattle.std.proofs.shelf.Lists.{length-append, length-set, getD-set-same, getD-set-other, drop-drop, length-take-le, ext-getD, take-take}
 use Rattle.std.proofs.shelf.Parts.{between-is, take-putMid-below, drop-putMid, between-putMid, overwrites}
 use Rattle.stores.specs.Image.{sectors-in, image-count, image-of, Image-length}
+use Rattle.device.proofs.ByteLists.{no-bytes, take-bytes, drop-bytes}
 use Rattle.device.specs.Meaning.{Meaning, Bytes, with-sector, Lawful}
 use Rattle.device.specs.Transfers.{Reads, Writes}
 use Rattle.std.specs.declared.result.Result.the-variants.{Ok, Err}
@@ -125,23 +126,11 @@ image-reads bs k b b′ g h l e = record {
   otherwise = λ _ _. (tt, e ∙ sym (getD-sectors-in (image-count (length bs)) k bs h), refl);
 }
 
-none-below : (i : ℕ) → getD {A = ℕ} [] i 0 < 256
-none-below i = omega arith
-
-take-below : (n : ℕ) (bs : List ℕ) → Bytes bs → Bytes (take n bs)
-take-below zero bs h i = none-below i
-take-below (suc n) [] h i = none-below i
-take-below (suc n) (x ∷ xs) h zero = h 0
-take-below (suc n) (x ∷ xs) h (suc i) = take-below n xs (λ j. h (suc j)) i
-
-drop-below : (n : ℕ) (bs : List ℕ) → Bytes bs → Bytes (drop n bs)
-drop-below n bs h i = rw getD-drop (h (n + i))
-
 bytes-below : (n k : ℕ) (bs : List ℕ) → Bytes bs → Bytes (getD (sectors-in n bs) k [])
 unfolding sectors-in
-bytes-below zero k bs h i = none-below i
-bytes-below (suc n) zero bs h i = take-below 512 bs h i
-bytes-below (suc n) (suc k) bs h i = bytes-below n k (drop 512 bs) (drop-below 512 bs h) i
+bytes-below zero k bs h i = no-bytes i
+bytes-below (suc n) zero bs h i = take-bytes 512 bs h i
+bytes-below (suc n) (suc k) bs h i = bytes-below n k (drop 512 bs) (drop-bytes 512 bs h) i
 
 pub image-lawful : (bs : List ℕ) (g : Geometry) → Bytes bs → Lawful (image-of bs g)
 image-lawful bs g b = record {
