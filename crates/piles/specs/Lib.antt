@@ -1,1 +1,1 @@
-pub mod WindowCacheImage
+pub mod WindowOnImage
