@@ -9,6 +9,8 @@ use Rattle.std.specs.declared.option.Option.{Option}
 use Rattle.std.specs.declared.option.Option.the-variants.{Some, None}
 use Rattle.device.specs.Meaning.{Meaning, MayAccept, sector}
 use Rattle.device.specs.declared.sector_device.SectorDevice.{Ghosts}
+use Rattle.layers.specs.Layer.{passed-on}
+use Rattle.layers.specs.declared.cache.Cache.{Cache}
 use Rattle.layers.specs.declared.cache.Entry.{Entry}
 
 -- a place keeps the bytes b of sector n
@@ -27,9 +29,13 @@ Nothing-kept xs = (n : ℕ) (b : List ℕ) → Kept xs n b → ⊥
 abbrev pub True-of : Meaning → List (Option Entry) → Type 0
 True-of m xs = (n : ℕ) (b : List ℕ) → Kept xs n b → (n < length (m .sectors)) × (b ≡ sector m n) × MayAccept (m .condition)
 
--- a cache over a device d that keeps xs
-abbrev pub Cache-sound : {D : Type 0} → Ghosts D → D → List (Option Entry) → Type 0
-Cache-sound g d xs = g .sound d × True-of (g .meaning d) xs
+-- it means what the device beneath means; it is sound where that device is and what is kept is true of it
+abbrev pub cache-layer : {D : Type 0} → Ghosts D → Ghosts (Cache D)
+cache-layer g = record {
+  meaning = λ d. g .meaning (d .beneath);
+  sound = λ d. g .sound (d .beneath) × True-of (g .meaning (d .beneath)) (d .entries .places);
+  faults = λ d. passed-on (g .faults (d .beneath));
+}
 
 -- a search for sector n: found, and its bytes are b′ now; or not kept, and the buffer is as it was
 abbrev pub Found : List (Option Entry) → ℕ → (b b′ : List ℕ) → Bool → Type 0

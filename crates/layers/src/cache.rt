@@ -5,10 +5,8 @@ ghost use mathlib.Core.List.{List};
 ghost use Prim.Native.Nat.{ℕ};
 ghost use lib.ListN.{length};
 ghost use Rattle.std.specs.declared.result.Result.the-variants.{Ok};
-ghost use Rattle.device.specs.Faults.{Within};
-ghost use Rattle.device.specs.Transfers.{Reads, Writes};
-ghost use Rattle.layers.specs.Layer.{passed-on};
-ghost use Rattle.layers.specs.Cache.{Kept, Nothing-kept, Cache-sound, Found, Kept-too, Followed};
+ghost use Rattle.layers.specs.Layer.{Stays, Keeps-faults, Reads-sector, Writes-sector};
+ghost use Rattle.layers.specs.Cache.{cache-layer, Kept, Nothing-kept, Found, Kept-too, Followed};
 use crate::answers::passed_on;
 use device::Act;
 use device::Fault;
@@ -92,6 +90,7 @@ impl Entries {
     }
 }
 
+// A device with some of its sectors in memory.
 #[derive(Drop)]
 pub struct Cache<D: SectorDevice> {
     beneath: D,
@@ -103,7 +102,7 @@ impl<D: SectorDevice> Cache<D> {
     pub fn new(beneath: D) -> Cache<D>
         ensures beneath { λ r. ⌜ r .beneath ≡ beneath ⌝ }
         ensures entries { λ r. ⌜ Nothing-kept (r .entries .places) ⌝ }
-        ensures sound { λ r. ⌜ (D·SectorDevice .sound beneath → Cache-sound D·SectorDevice (r .beneath) (r .entries .places)) ⌝ }
+        ensures sound { λ r. ⌜ (D·SectorDevice .sound beneath → cache-layer D·SectorDevice .sound r) ⌝ }
     {
         Cache {
             beneath,
@@ -124,11 +123,11 @@ impl<D: SectorDevice> Cache<D> {
 }
 
 pub impl<D: SectorDevice> SectorDevice for Cache<D> as CacheSectors {
-    ghost meaning = { λ d. D·SectorDevice .meaning (d .beneath) };
+    ghost meaning = { λ d. cache-layer D·SectorDevice .meaning d };
 
-    ghost sound = { λ d. Cache-sound D·SectorDevice (d .beneath) (d .entries .places) };
+    ghost sound = { λ d. cache-layer D·SectorDevice .sound d };
 
-    ghost faults = { λ d. passed-on (D·SectorDevice .faults (d .beneath)) };
+    ghost faults = { λ d. cache-layer D·SectorDevice .faults d };
 
     fn size(&self) -> u32 {
         self.beneath.size()
@@ -139,9 +138,9 @@ pub impl<D: SectorDevice> SectorDevice for Cache<D> as CacheSectors {
     }
 
     fn read(&mut self, n: u32, buf: &mut [u8]) -> Result<(), Fault>
-        ensures stays { λ r. ⌜ (Cache-sound D·SectorDevice (now (self .entry) .beneath) (now (self .entry) .entries .places) → Cache-sound D·SectorDevice (now (self .exit) .beneath) (now (self .exit) .entries .places)) ⌝ }
-        ensures faults { λ r. ⌜ (Cache-sound D·SectorDevice (now (self .entry) .beneath) (now (self .entry) .entries .places) → Within (passed-on (D·SectorDevice .faults (now (self .exit) .beneath))) (passed-on (D·SectorDevice .faults (now (self .entry) .beneath)))) ⌝ }
-        ensures reads { λ r. ⌜ (Cache-sound D·SectorDevice (now (self .entry) .beneath) (now (self .entry) .entries .places) → Reads (passed-on (D·SectorDevice .faults (now (self .entry) .beneath))) (D·SectorDevice .meaning (now (self .entry) .beneath)) (D·SectorDevice .meaning (now (self .exit) .beneath)) n (now (buf .entry)) (now (buf .exit)) r) ⌝ }
+        ensures stays { λ r. ⌜ Stays (cache-layer D·SectorDevice) (now (self .entry)) (now (self .exit)) ⌝ }
+        ensures faults { λ r. ⌜ Keeps-faults (cache-layer D·SectorDevice) (now (self .entry)) (now (self .exit)) ⌝ }
+        ensures reads { λ r. ⌜ Reads-sector (cache-layer D·SectorDevice) (now (self .entry)) (now (self .exit)) n (now (buf .entry)) (now (buf .exit)) r ⌝ }
         ensures untouched { λ r. ⌜ ((b : List ℕ) → Kept (now (self .entry) .entries .places) n b → now (self .exit) .beneath ≡ now (self .entry) .beneath) ⌝ }
         ensures keeps { λ r. ⌜ (r ≡ Ok tt → Kept (now (self .exit) .entries .places) n (now (buf .exit))) ⌝ }
     {
@@ -155,9 +154,9 @@ pub impl<D: SectorDevice> SectorDevice for Cache<D> as CacheSectors {
     }
 
     fn write(&mut self, n: u32, buf: &[u8]) -> Result<(), Fault>
-        ensures stays { λ r. ⌜ (Cache-sound D·SectorDevice (now (self .entry) .beneath) (now (self .entry) .entries .places) → Cache-sound D·SectorDevice (now (self .exit) .beneath) (now (self .exit) .entries .places)) ⌝ }
-        ensures faults { λ r. ⌜ (Cache-sound D·SectorDevice (now (self .entry) .beneath) (now (self .entry) .entries .places) → Within (passed-on (D·SectorDevice .faults (now (self .exit) .beneath))) (passed-on (D·SectorDevice .faults (now (self .entry) .beneath)))) ⌝ }
-        ensures writes { λ r. ⌜ (Cache-sound D·SectorDevice (now (self .entry) .beneath) (now (self .entry) .entries .places) → Writes (passed-on (D·SectorDevice .faults (now (self .entry) .beneath))) (D·SectorDevice .meaning (now (self .entry) .beneath)) (D·SectorDevice .meaning (now (self .exit) .beneath)) n (now (buf .entry)) r) ⌝ }
+        ensures stays { λ r. ⌜ Stays (cache-layer D·SectorDevice) (now (self .entry)) (now (self .exit)) ⌝ }
+        ensures faults { λ r. ⌜ Keeps-faults (cache-layer D·SectorDevice) (now (self .entry)) (now (self .exit)) ⌝ }
+        ensures writes { λ r. ⌜ Writes-sector (cache-layer D·SectorDevice) (now (self .entry)) (now (self .exit)) n (now (buf .entry)) r ⌝ }
         ensures keeps { λ r. ⌜ (r ≡ Ok tt → Kept (now (self .exit) .entries .places) n (now (buf .entry))) ⌝ }
     {
         check_transfer(Act::Write, n, self.beneath.size(), buf.len())?;

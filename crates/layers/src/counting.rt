@@ -1,9 +1,7 @@
 // The counting layer: it passes every transfer on, and counts those that were accepted.
 ghost use mathlib.Core.Path.{_≡_};
-ghost use Rattle.device.specs.Faults.{Within};
-ghost use Rattle.device.specs.Transfers.{Reads, Writes};
-ghost use Rattle.layers.specs.Layer.{passed-on};
-ghost use Rattle.layers.specs.Counting.{one-more, counted};
+ghost use Rattle.layers.specs.Layer.{Stays, Keeps-faults, Reads-sector, Writes-sector};
+ghost use Rattle.layers.specs.Counting.{counting-layer, one-more, counted};
 use crate::answers::passed_on;
 use device::Act;
 use device::Fault;
@@ -11,6 +9,7 @@ use device::Geometry;
 use device::SectorDevice;
 use device::check_transfer;
 
+// A device with the number of its accepted reads and writes.
 #[derive(Drop)]
 pub struct Counting<D: SectorDevice> {
     beneath: D,
@@ -31,7 +30,7 @@ impl<D: SectorDevice> Counting<D> {
         ensures beneath { λ r. ⌜ r .beneath ≡ beneath ⌝ }
         ensures reads { λ r. ⌜ r .reads ≡ 0 ⌝ }
         ensures writes { λ r. ⌜ r .writes ≡ 0 ⌝ }
-        ensures sound { λ r. ⌜ (D·SectorDevice .sound beneath → D·SectorDevice .sound (r .beneath)) ⌝ }
+        ensures sound { λ r. ⌜ (D·SectorDevice .sound beneath → counting-layer D·SectorDevice .sound r) ⌝ }
     {
         Counting {
             beneath,
@@ -68,11 +67,11 @@ impl<D: SectorDevice> Counting<D> {
 }
 
 pub impl<D: SectorDevice> SectorDevice for Counting<D> as CountingSectors {
-    ghost meaning = { λ d. D·SectorDevice .meaning (d .beneath) };
+    ghost meaning = { λ d. counting-layer D·SectorDevice .meaning d };
 
-    ghost sound = { λ d. D·SectorDevice .sound (d .beneath) };
+    ghost sound = { λ d. counting-layer D·SectorDevice .sound d };
 
-    ghost faults = { λ d. passed-on (D·SectorDevice .faults (d .beneath)) };
+    ghost faults = { λ d. counting-layer D·SectorDevice .faults d };
 
     fn size(&self) -> u32 {
         self.beneath.size()
@@ -83,9 +82,9 @@ pub impl<D: SectorDevice> SectorDevice for Counting<D> as CountingSectors {
     }
 
     fn read(&mut self, n: u32, buf: &mut [u8]) -> Result<(), Fault>
-        ensures stays { λ r. ⌜ (D·SectorDevice .sound (now (self .entry) .beneath) → D·SectorDevice .sound (now (self .exit) .beneath)) ⌝ }
-        ensures faults { λ r. ⌜ (D·SectorDevice .sound (now (self .entry) .beneath) → Within (passed-on (D·SectorDevice .faults (now (self .exit) .beneath))) (passed-on (D·SectorDevice .faults (now (self .entry) .beneath)))) ⌝ }
-        ensures reads { λ r. ⌜ (D·SectorDevice .sound (now (self .entry) .beneath) → Reads (passed-on (D·SectorDevice .faults (now (self .entry) .beneath))) (D·SectorDevice .meaning (now (self .entry) .beneath)) (D·SectorDevice .meaning (now (self .exit) .beneath)) n (now (buf .entry)) (now (buf .exit)) r) ⌝ }
+        ensures stays { λ r. ⌜ Stays (counting-layer D·SectorDevice) (now (self .entry)) (now (self .exit)) ⌝ }
+        ensures faults { λ r. ⌜ Keeps-faults (counting-layer D·SectorDevice) (now (self .entry)) (now (self .exit)) ⌝ }
+        ensures reads { λ r. ⌜ Reads-sector (counting-layer D·SectorDevice) (now (self .entry)) (now (self .exit)) n (now (buf .entry)) (now (buf .exit)) r ⌝ }
         ensures counted_reads { λ r. ⌜ now (self .exit) .reads ≡ counted (now (self .entry) .reads) r ⌝ }
         ensures counted_writes { λ r. ⌜ now (self .exit) .writes ≡ now (self .entry) .writes ⌝ }
     {
@@ -100,9 +99,9 @@ pub impl<D: SectorDevice> SectorDevice for Counting<D> as CountingSectors {
     }
 
     fn write(&mut self, n: u32, buf: &[u8]) -> Result<(), Fault>
-        ensures stays { λ r. ⌜ (D·SectorDevice .sound (now (self .entry) .beneath) → D·SectorDevice .sound (now (self .exit) .beneath)) ⌝ }
-        ensures faults { λ r. ⌜ (D·SectorDevice .sound (now (self .entry) .beneath) → Within (passed-on (D·SectorDevice .faults (now (self .exit) .beneath))) (passed-on (D·SectorDevice .faults (now (self .entry) .beneath)))) ⌝ }
-        ensures writes { λ r. ⌜ (D·SectorDevice .sound (now (self .entry) .beneath) → Writes (passed-on (D·SectorDevice .faults (now (self .entry) .beneath))) (D·SectorDevice .meaning (now (self .entry) .beneath)) (D·SectorDevice .meaning (now (self .exit) .beneath)) n (now (buf .entry)) r) ⌝ }
+        ensures stays { λ r. ⌜ Stays (counting-layer D·SectorDevice) (now (self .entry)) (now (self .exit)) ⌝ }
+        ensures faults { λ r. ⌜ Keeps-faults (counting-layer D·SectorDevice) (now (self .entry)) (now (self .exit)) ⌝ }
+        ensures writes { λ r. ⌜ Writes-sector (counting-layer D·SectorDevice) (now (self .entry)) (now (self .exit)) n (now (buf .entry)) r ⌝ }
         ensures counted_reads { λ r. ⌜ now (self .exit) .reads ≡ now (self .entry) .reads ⌝ }
         ensures counted_writes { λ r. ⌜ now (self .exit) .writes ≡ counted (now (self .entry) .writes) r ⌝ }
     {

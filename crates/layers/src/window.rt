@@ -3,10 +3,9 @@ ghost use mathlib.Core.Path.{_≡_};
 ghost use Prim.Native.Nat.{_+_, _<_};
 ghost use lib.ListN.{length};
 ghost use Rattle.std.specs.Orderings.{Decides};
-ghost use Rattle.device.specs.Faults.{raised-faults, Within};
 ghost use Rattle.device.specs.Meaning.{Lawful};
-ghost use Rattle.device.specs.Transfers.{Reads, Writes};
-ghost use Rattle.layers.specs.Window.{Is-window, window-count, window-of, Reads-beneath, Writes-beneath};
+ghost use Rattle.layers.specs.Layer.{Stays, Keeps-faults, Reads-sector, Writes-sector};
+ghost use Rattle.layers.specs.Window.{Is-window, window-count, window-layer, Asks-read, Asks-write};
 use crate::answers::passed_on;
 use device::Act;
 use device::Fault;
@@ -35,7 +34,7 @@ impl<D: SectorDevice> Window<D> {
         ensures beneath { λ r. ⌜ r .beneath ≡ beneath ⌝ }
         ensures first { λ r. ⌜ r .first ≡ first ⌝ }
         ensures count { λ r. ⌜ r .count ≡ count ⌝ }
-        ensures sound { λ r. ⌜ (D·SectorDevice .sound beneath → D·SectorDevice .sound (r .beneath)) ⌝ }
+        ensures sound { λ r. ⌜ (D·SectorDevice .sound beneath → window-layer D·SectorDevice .sound r) ⌝ }
     {
         Window {
             beneath,
@@ -71,11 +70,11 @@ impl<D: SectorDevice> Window<D> {
 }
 
 pub impl<D: SectorDevice> SectorDevice for Window<D> as WindowSectors {
-    ghost meaning = { λ d. window-of (D·SectorDevice .meaning (d .beneath)) (d .first) (d .count) };
+    ghost meaning = { λ d. window-layer D·SectorDevice .meaning d };
 
-    ghost sound = { λ d. D·SectorDevice .sound (d .beneath) };
+    ghost sound = { λ d. window-layer D·SectorDevice .sound d };
 
-    ghost faults = { λ d. raised-faults (D·SectorDevice .faults (d .beneath)) (λ n. d .first + n) };
+    ghost faults = { λ d. window-layer D·SectorDevice .faults d };
 
     fn size(&self) -> u32 {
         self.count_now()
@@ -86,10 +85,10 @@ pub impl<D: SectorDevice> SectorDevice for Window<D> as WindowSectors {
     }
 
     fn read(&mut self, n: u32, buf: &mut [u8]) -> Result<(), Fault>
-        ensures stays { λ r. ⌜ (D·SectorDevice .sound (now (self .entry) .beneath) → D·SectorDevice .sound (now (self .exit) .beneath)) ⌝ }
-        ensures faults { λ r. ⌜ (D·SectorDevice .sound (now (self .entry) .beneath) → Within (raised-faults (D·SectorDevice .faults (now (self .exit) .beneath)) (λ k. now (self .exit) .first + k)) (raised-faults (D·SectorDevice .faults (now (self .entry) .beneath)) (λ k. now (self .entry) .first + k))) ⌝ }
-        ensures reads { λ r. ⌜ (D·SectorDevice .sound (now (self .entry) .beneath) → Reads (raised-faults (D·SectorDevice .faults (now (self .entry) .beneath)) (λ k. now (self .entry) .first + k)) (window-of (D·SectorDevice .meaning (now (self .entry) .beneath)) (now (self .entry) .first) (now (self .entry) .count)) (window-of (D·SectorDevice .meaning (now (self .exit) .beneath)) (now (self .exit) .first) (now (self .exit) .count)) n (now (buf .entry)) (now (buf .exit)) r) ⌝ }
-        ensures beneath { λ r. ⌜ (D·SectorDevice .sound (now (self .entry) .beneath) → Reads-beneath (D·SectorDevice .faults (now (self .entry) .beneath)) (D·SectorDevice .meaning (now (self .entry) .beneath)) (D·SectorDevice .meaning (now (self .exit) .beneath)) (now (self .entry) .first) (now (self .entry) .count) n (now (buf .entry)) (now (buf .exit)) r) ⌝ }
+        ensures stays { λ r. ⌜ Stays (window-layer D·SectorDevice) (now (self .entry)) (now (self .exit)) ⌝ }
+        ensures faults { λ r. ⌜ Keeps-faults (window-layer D·SectorDevice) (now (self .entry)) (now (self .exit)) ⌝ }
+        ensures reads { λ r. ⌜ Reads-sector (window-layer D·SectorDevice) (now (self .entry)) (now (self .exit)) n (now (buf .entry)) (now (buf .exit)) r ⌝ }
+        ensures beneath { λ r. ⌜ Asks-read D·SectorDevice (now (self .entry)) (now (self .exit)) n (now (buf .entry)) (now (buf .exit)) r ⌝ }
         ensures first { λ r. ⌜ now (self .exit) .first ≡ now (self .entry) .first ⌝ }
         ensures count { λ r. ⌜ now (self .exit) .count ≡ now (self .entry) .count ⌝ }
     {
@@ -98,10 +97,10 @@ pub impl<D: SectorDevice> SectorDevice for Window<D> as WindowSectors {
     }
 
     fn write(&mut self, n: u32, buf: &[u8]) -> Result<(), Fault>
-        ensures stays { λ r. ⌜ (D·SectorDevice .sound (now (self .entry) .beneath) → D·SectorDevice .sound (now (self .exit) .beneath)) ⌝ }
-        ensures faults { λ r. ⌜ (D·SectorDevice .sound (now (self .entry) .beneath) → Within (raised-faults (D·SectorDevice .faults (now (self .exit) .beneath)) (λ k. now (self .exit) .first + k)) (raised-faults (D·SectorDevice .faults (now (self .entry) .beneath)) (λ k. now (self .entry) .first + k))) ⌝ }
-        ensures writes { λ r. ⌜ (D·SectorDevice .sound (now (self .entry) .beneath) → Writes (raised-faults (D·SectorDevice .faults (now (self .entry) .beneath)) (λ k. now (self .entry) .first + k)) (window-of (D·SectorDevice .meaning (now (self .entry) .beneath)) (now (self .entry) .first) (now (self .entry) .count)) (window-of (D·SectorDevice .meaning (now (self .exit) .beneath)) (now (self .exit) .first) (now (self .exit) .count)) n (now (buf .entry)) r) ⌝ }
-        ensures beneath { λ r. ⌜ (D·SectorDevice .sound (now (self .entry) .beneath) → Writes-beneath (D·SectorDevice .faults (now (self .entry) .beneath)) (D·SectorDevice .meaning (now (self .entry) .beneath)) (D·SectorDevice .meaning (now (self .exit) .beneath)) (now (self .entry) .first) (now (self .entry) .count) n (now (buf .entry)) r) ⌝ }
+        ensures stays { λ r. ⌜ Stays (window-layer D·SectorDevice) (now (self .entry)) (now (self .exit)) ⌝ }
+        ensures faults { λ r. ⌜ Keeps-faults (window-layer D·SectorDevice) (now (self .entry)) (now (self .exit)) ⌝ }
+        ensures writes { λ r. ⌜ Writes-sector (window-layer D·SectorDevice) (now (self .entry)) (now (self .exit)) n (now (buf .entry)) r ⌝ }
+        ensures beneath { λ r. ⌜ Asks-write D·SectorDevice (now (self .entry)) (now (self .exit)) n (now (buf .entry)) r ⌝ }
         ensures first { λ r. ⌜ now (self .exit) .first ≡ now (self .entry) .first ⌝ }
         ensures count { λ r. ⌜ now (self .exit) .count ≡ now (self .entry) .count ⌝ }
     {

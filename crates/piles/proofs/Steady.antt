@@ -21,7 +21,7 @@ use Rattle.stores.proofs.Images.{length-sectors-in}
 use Rattle.layers.specs.Layer.{passed-answer}
 use Rattle.layers.specs.Window.{window-count, Writes-beneath}
 use Rattle.layers.proofs.Windows.{length-window}
-use Rattle.piles.specs.WindowCacheImage.{pile-count, Reads-back, In-image, image-sectors, Writes-through}
+use Rattle.piles.specs.WindowOnImage.{pile-count, Reads-back, In-image, image-sectors, Writes-through}
 
 -- the sectors of the pile, made of the bytes bs₀, first f₀ and count k₀
 pub length-pile : (bs bs₀ : List ℕ) (f f₀ k k₀ : ℕ) → bs ≡ bs₀ → f ≡ f₀ → k ≡ k₀ →

@@ -1,2 +1,2 @@
-pub mod WindowCacheImage
+pub mod WindowOnImage
 pub mod WindowCacheSparse

@@ -3,7 +3,7 @@
 ghost use mathlib.Core.Path.{_≡_};
 ghost use lib.ListN.{length};
 ghost use Rattle.std.specs.declared.result.Result.the-variants.{Ok};
-ghost use Rattle.piles.specs.WindowCacheImage.{pile-count, Reads-back, In-image, Writes-through};
+ghost use Rattle.piles.specs.WindowOnImage.{pile-count, Reads-back, In-image, Writes-through};
 use device::Fault;
 use device::Geometry;
 use device::SectorDevice;

@@ -1,4 +1,4 @@
--- What is written to a window over a cache over an image, and read back.
+-- What a window over an image answers to a write, and what it leaves in the image.
 use mathlib.Core.Path.{_≡_}
 use mathlib.Core.List.{List}
 use mathlib.Core.Logic.{_≢_}
