@@ -23,6 +23,7 @@ pub use extents::job_size;
 pub use figures::figures_hold;
 pub use label::Label;
 pub use names::Name;
+pub use names::NameEquality;
 pub use sizes::EntryPlace;
 pub use sizes::Layout;
 pub use sizes::entry_place;

@@ -2,12 +2,23 @@
 ghost use mathlib.Core.Path.{_≡_};
 ghost use Prim.Native.Nat.{_≤_};
 ghost use lib.ListN.{length};
+ghost use Rattle.std.specs.shelf.Text.{sameBytes};
 ghost use Rattle.layout.specs.Names.{name-char, lawful-name, padded, name-of};
+use crate::bytes::same;
 
 // A lawful name, padded with spaces.
-#[derive(Clone, Copy, PartialEq, Eq, Debug)]
+#[derive(Clone, Copy, Debug)]
 pub struct Name {
     bytes: [u8; 16],
+}
+
+// Two names are equal if they are equal padded.
+pub impl PartialEq<Name> for Name as NameEquality {
+    ghost equals = { λ a b r. r ≡ sameBytes (a .bytes) (b .bytes) };
+
+    fn eq(&self, other: &Name) -> bool {
+        same(&self.bytes, &other.bytes)
+    }
 }
 
 impl Name {
