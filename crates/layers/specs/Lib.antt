@@ -1,4 +1,3 @@
-pub mod Cache
 pub mod Counting
 pub mod Layer
 pub mod Window

@@ -4,7 +4,7 @@ ghost use Rattle.layers.specs.Layer.{passed-answer};
 use device::Fault;
 
 // The answer as the layer gives it: a fault rises one level.
-pub(crate) fn passed_on(answer: Result<(), Fault>) -> Result<(), Fault>
+pub fn passed_on(answer: Result<(), Fault>) -> Result<(), Fault>
     ensures { λ r. ⌜ r ≡ passed-answer answer ⌝ }
 {
     match answer {

@@ -2,16 +2,13 @@
 // the refusals of the device beneath on, one level up.
 
 // What a layer makes of the answers of the device beneath.
-mod answers;
+pub mod answers;
 // Some sectors of a device, as a device.
 pub mod window;
-// A device that keeps up to four sectors in memory, and writes through.
-pub mod cache;
 // A device that counts the transfers.
 pub mod counting;
 
-pub use cache::Cache;
-pub use cache::CacheSectors;
+pub use answers::passed_on;
 pub use counting::Counting;
 pub use counting::CountingSectors;
 pub use window::Window;

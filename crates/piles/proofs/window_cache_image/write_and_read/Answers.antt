@@ -3,7 +3,7 @@ use lib.ListN.{length}
 use denote.Ref.{now}
 use Rattle.std.proofs.shelf.Results.{err-from-errBy}
 use Rattle.device.proofs.Zeros.{length-zeros}
-use Rattle.layers.specs.Cache.{Nothing-kept}
+use Rattle.caching.specs.Cache.{Nothing-kept}
 use Rattle.piles.specs.WindowOnImage.{pile-count, Reads-back}
 use Rattle.piles.proofs.Steady.{length-pile, in-pile, write-refused, read-refused, read-back}
 use Rattle.piles.proofs.window_cache_image.write_and_read.Needs as need

@@ -1,6 +1,6 @@
 use mathlib.Core.Path.{_≡_, sym, _∙_, ap, subst}
 use denote.Ref.{now}
-use Rattle.layers.specs.Cache.{Nothing-kept}
+use Rattle.caching.specs.Cache.{Nothing-kept}
 use Rattle.piles.proofs.Steady.{length-pile, written-through}
 use Rattle.piles.proofs.window_cache_image.write_through.Needs as need
 

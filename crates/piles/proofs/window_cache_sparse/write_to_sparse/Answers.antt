@@ -1,7 +1,7 @@
 use mathlib.Core.Path.{_≡_, sym, _∙_, ap, subst}
 use denote.Ref.{now}
 use Rattle.device.specs.Meaning.{Meaning}
-use Rattle.layers.specs.Cache.{Nothing-kept}
+use Rattle.caching.specs.Cache.{Nothing-kept}
 use Rattle.stores.specs.Sparse.{Sparse-sound, sparse-sectors}
 use Rattle.piles.proofs.Below.{written-or-full, length-zero-window}
 use Rattle.piles.proofs.window_cache_sparse.write_to_sparse.Needs as need

@@ -3,10 +3,10 @@ use mathlib.Core.Bool.{Bool}
 use Prim.Native.Nat.{ℕ, _<_}
 use lib.ListN.{length}
 use Rattle.device.proofs.Checks.{passed, raised-within}
-use Rattle.layers.specs.Cache.{Followed}
-use Rattle.layers.proofs.Kept.{kept-read, true-after-reads, kept-after}
+use Rattle.caching.specs.Cache.{Followed}
+use Rattle.caching.proofs.Kept.{kept-read, true-after-reads, kept-after}
 use Rattle.layers.proofs.Passed.{passed-reads}
-use Rattle.layers.proofs.cache.CacheSectors.read.Needs as need
+use Rattle.caching.proofs.cache.CacheSectors.read.Needs as need
 
 pub returns-then-find : need.returns-then-find
 returns-then-find g c = record {

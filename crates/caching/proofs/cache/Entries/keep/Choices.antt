@@ -4,8 +4,8 @@ use mathlib.Core.Logic.{_≢_}
 use Prim.Native.Nat.{ℕ, _<_}
 use lib.ListN.{getD, length}
 use Rattle.std.specs.declared.option.Option.the-variants.{Some, None}
-use Rattle.layers.specs.Cache.{In-place}
-use Rattle.layers.proofs.cache.Entries.keep.Given as given
+use Rattle.caching.specs.Cache.{In-place}
+use Rattle.caching.proofs.cache.Entries.keep.Given as given
 
 -- what is still kept was kept, and up to here none of it is of sector n
 abbrev pub Inv-loop-i : given.InvT-loop-i

@@ -1,7 +1,7 @@
 use native.Mathlib.Omega.{arith}
 use borrow.Author.Needs.{needs}
-use Rattle.layers.proofs.Kept.{kept-too}
-use Rattle.layers.proofs.cache.Entries.keep.Needs as need
+use Rattle.caching.proofs.Kept.{kept-too}
+use Rattle.caching.proofs.cache.Entries.keep.Needs as need
 
 pub returns : need.returns
 returns c =

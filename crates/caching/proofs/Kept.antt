@@ -17,9 +17,9 @@ use Rattle.device.specs.Faults.{Faults}
 use Rattle.device.specs.Meaning.{Meaning, sector}
 use Rattle.device.specs.Transfers.{Reads, Writes}
 use Rattle.device.specs.declared.faults.Fault.{Fault}
 use Rattle.layers.specs.Layer.{passed-answer}
-use Rattle.layers.specs.Cache.{In-place, Kept, Kept-too, Followed, True-of}
-use Rattle.layers.specs.declared.cache.Entry.{Entry}
+use Rattle.caching.specs.Cache.{In-place, Kept, Kept-too, Followed, True-of}
+use Rattle.caching.specs.declared.cache.Entry.{Entry}
 
 below : {j n i : ℕ} → n ≤ i → j < n → j < i
 below h l = omega arith

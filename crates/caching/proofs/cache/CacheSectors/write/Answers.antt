@@ -2,10 +2,10 @@ use mathlib.Core.Path.{_≡_, subst, sym, _∙_}
 use mathlib.Core.Bool.{Bool}
 use Prim.Native.Nat.{ℕ, _<_}
 use Rattle.device.proofs.Checks.{passed, raised-within}
-use Rattle.layers.specs.Cache.{Followed}
-use Rattle.layers.proofs.Kept.{true-after-writes, kept-after}
+use Rattle.caching.specs.Cache.{Followed}
+use Rattle.caching.proofs.Kept.{true-after-writes, kept-after}
 use Rattle.layers.proofs.Passed.{passed-writes}
-use Rattle.layers.proofs.cache.CacheSectors.write.Needs as need
+use Rattle.caching.proofs.cache.CacheSectors.write.Needs as need
 
 pub returns : need.returns
 returns g c =

@@ -9,9 +9,9 @@ use Rattle.std.specs.declared.option.Option.{Option}
 use Rattle.std.specs.declared.option.Option.the-variants.{Some, None}
 use Rattle.device.specs.Meaning.{Meaning, MayAccept, sector}
 use Rattle.device.specs.declared.sector_device.SectorDevice.{Ghosts}
 use Rattle.layers.specs.Layer.{passed-on}
-use Rattle.layers.specs.declared.cache.Cache.{Cache}
-use Rattle.layers.specs.declared.cache.Entry.{Entry}
+use Rattle.caching.specs.declared.cache.Cache.{Cache}
+use Rattle.caching.specs.declared.cache.Entry.{Entry}
 
 -- a place keeps the bytes b of sector n
 abbrev pub In-place : Option Entry → ℕ → List ℕ → Type 0

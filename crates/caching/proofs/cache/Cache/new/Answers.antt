@@ -1,5 +1,5 @@
 use mathlib.Core.Path.{refl}
-use Rattle.layers.proofs.cache.Cache.new.Needs as need
+use Rattle.caching.proofs.cache.Cache.new.Needs as need
 
 pub returns : need.returns
 returns g c = record {

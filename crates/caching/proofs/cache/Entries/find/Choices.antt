@@ -3,8 +3,8 @@ use mathlib.Core.List.{List}
 use Prim.Native.Nat.{ℕ, _<_}
 use lib.ListN.{getD}
 use Rattle.std.specs.declared.option.Option.the-variants.{Some, None}
-use Rattle.layers.specs.Cache.{In-place}
-use Rattle.layers.proofs.cache.Entries.find.Given as given
+use Rattle.caching.specs.Cache.{In-place}
+use Rattle.caching.proofs.cache.Entries.find.Given as given
 
 -- up to here sector n is not kept
 abbrev pub Inv-loop-i : given.InvT-loop-i

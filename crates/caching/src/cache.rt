@@ -5,15 +5,15 @@ ghost use mathlib.Core.List.{List};
 ghost use Prim.Native.Nat.{ℕ};
 ghost use lib.ListN.{length};
 ghost use Rattle.std.specs.declared.result.Result.the-variants.{Ok};
 ghost use Rattle.layers.specs.Layer.{Stays, Keeps-faults, Reads-sector, Writes-sector};
-ghost use Rattle.layers.specs.Cache.{cache-layer, Kept, Nothing-kept, Found, Kept-too, Followed};
-use crate::answers::passed_on;
+ghost use Rattle.caching.specs.Cache.{cache-layer, Kept, Nothing-kept, Found, Kept-too, Followed};
 use device::Act;
 use device::Fault;
 use device::Geometry;
 use device::SectorDevice;
 use device::check_transfer;
 use device::zero_sector;
+use layers::passed_on;
 
 // A sector that is kept.
 #[derive(Clone, Copy)]
