@@ -1,4 +1,5 @@
 // The calls of a card that change it, over any device: each as its plan says.
+#![tactic(auto)]
 
 // Jobs by their names.
 mod named;

@@ -1,6 +1,6 @@
 -- What the tests before a transfer give: a refusal that meets the device's contract, or a transfer that may go on.
 -- And what a layer names, which is what is named beneath it.
-use Rattle.std.proofs.Common.{◌≡◌, ℕ, ◌<◌, ◌≤◌, ◌⊎◌, List, length, Ok, Err, Result, refl, inl, inr, arith}
+use Rattle.std.proofs.Common.{◌≡◌, ℕ, ◌<◌, ◌≤◌, List, length, Ok, Err, Result, refl, inl, inr, arith}
 use Rattle.std.proofs.lemmas.Bool.{cases_eq, cases_lt}
 use Rattle.device.specs.Faults.{Faults, Within, raised_faults, Checks}
 use Rattle.device.specs.Meaning.{Meaning}

@@ -1,4 +1,5 @@
 // Card devices: the interface that every make keeps, and the faults that it may name.
+#![tactic(auto)]
 
 // Who refused what: causes, acts, faults and their levels; the geometry.
 pub mod faults;

@@ -1,4 +1,6 @@
 // Formatting a card on any device, and reading its label back.
+#![tactic(auto)]
+
 ghost use Rattle.std.specs.Prelude.{◌≡◌, ◌<◌, ◌≤◌, length};
 ghost use Rattle.device.specs.Calls.{Keeps, OfSound};
 ghost use Rattle.runs.specs.Writes.{Written};

@@ -1,4 +1,6 @@
 // Whole histories of a card: calls with their answers, pulled cards, cold starts.
+#![tactic(auto)]
+
 ghost use Rattle.histories.specs.Theorem.{HistoriesUpheld};
 
 // From a card whose format counted, every history upholds what the model says.

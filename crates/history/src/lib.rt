@@ -1,4 +1,6 @@
 // The model of a card, and that every call keeps it, whatever part of its writes persists.
+#![tactic(auto)]
+
 ghost use Rattle.history.specs.Preserved.{CallsPreserve, WipeZeroes};
 ghost use Rattle.history.specs.Examples.{Streaming, Wiping, SavingOver};
 

@@ -1,4 +1,5 @@
 // The card format as bytes: sizes, words, names and the master sector. Nothing here touches a device.
+#![tactic(auto)]
 
 // Runs of bytes: equal or not.
 mod bytes;

@@ -42,7 +42,7 @@ pub(crate) fn info(rt: &HostRuntime, image: &str) -> Result<(), Failure> {
 
 // Writes the bytes to a new file beside the image, and then puts that in the image's place.
 fn store(rt: &HostRuntime, image: &str, bytes: &[u8]) -> Result<(), Failure> {
-    let beside = format!(rt.alloc(), "{image}.new")?;
+    let beside = format!(in rt.alloc(); "{image}.new")?;
     if fs::exists(rt, beside.as_str())? {
         return Err(Failure::Beside);
     }

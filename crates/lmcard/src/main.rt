@@ -1,5 +1,6 @@
 // lmcard: makes card images in the LM80C DOS format and reads their labels. It prints what it did, a line an action; what
 // went wrong goes to standard error, with status 1.
+#![tactic(auto)]
 
 // The words of the command line.
 mod command;
@@ -17,6 +18,7 @@ mod show;
 use command::Command;
 use failure::Failure;
 use std::env;
+use std::process::ExitCode;
 
 fn run(rt: &HostRuntime, words: &[String]) -> Result<(), Failure> {
     match Command::parse(words)? {
@@ -40,11 +42,19 @@ fn report(rt: &HostRuntime, words: &[String], failure: &Failure) {
     };
 }
 
-fn main(rt: HostRuntime) -> Result<(), Failure> {
-    let words: Vec<String> = env::args(&rt)?.skip(1).collect(rt.alloc())?;
-    let done = run(&rt, &words);
+// Carries out the command line, and says what went wrong.
+fn carry_out(rt: &HostRuntime) -> Result<(), Failure> {
+    let words: Vec<String> = env::args(rt)?.skip(1).collect(rt.alloc())?;
+    let done = run(rt, &words);
     if let Err(failure) = &done {
-        report(&rt, &words, failure);
+        report(rt, &words, failure);
     }
     done
+}
+
+fn main(rt: HostRuntime) -> ExitCode {
+    match carry_out(&rt) {
+        Ok(()) => ExitCode::SUCCESS,
+        Err(_) => ExitCode::FAILURE,
+    }
 }

@@ -1,4 +1,5 @@
 // Piles: layers over a device that keeps its sectors, and what holds of them with nothing asked beforehand.
+#![tactic(auto)]
 
 // A window over a cache over an image.
 pub mod window_cache_image;

@@ -1,4 +1,6 @@
 // A card's sectors seen as slots, each with its entry and its block. All arithmetic of the layout is done here, once.
+#![tactic(auto)]
+
 ghost use Rattle.places.specs.Places.{LayoutsSound, WritesRefine};
 
 // Every layout is sound; and writes of entries and of block sectors do to the slots of a card what they say, and

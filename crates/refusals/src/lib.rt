@@ -1,4 +1,6 @@
 // The refusals of card calls, by number. docs/CALLS.md says which call refuses when, and what it leaves.
+#![tactic(auto)]
+
 ghost use Rattle.std.specs.Prelude.{◌≡◌};
 ghost use Rattle.refusals.specs.Refusals.{refusal_number};
 ghost use Rattle.refusals.specs.declared.Refusal.TheVariants.{Device as ByDevice};

@@ -1,4 +1,5 @@
 // Rows for the caller: a table over a slice of rows that the caller lends, and the kinds of row that fill it.
+#![tactic(auto)]
 
 // A table for every kind of row.
 pub mod table;

@@ -1,4 +1,6 @@
 // Runs of sector writes over any device: all of them, or a first part of them where the device refuses.
+#![tactic(auto)]
+
 ghost use Rattle.std.specs.Prelude.{◌-◌, ◌≤◌, length};
 ghost use Rattle.device.specs.Calls.{Keeps, OfSound};
 ghost use Rattle.runs.specs.Writes.{zeroing, Written};

@@ -1,4 +1,5 @@
 // Devices that keep their sectors themselves.
+#![tactic(auto)]
 
 // Every sector in bytes that the caller lends.
 pub mod image;

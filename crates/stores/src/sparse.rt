@@ -37,7 +37,7 @@ fn is_zero(buf: &[u8]) -> bool
     ensures { Decides result (buf.now ≡ zeros 512) }
 {
     let zero = zero_sector();
-    buf == &zero
+    buf == zero.as_slice()
 }
 
 // Gives back every place that keeps sector n.

@@ -1,4 +1,5 @@
 // Trials: what is run and matched, beside what is proved.
+#![tactic(auto)]
 
 // The public manual's tables and worked figures.
 mod manual;

@@ -1,4 +1,5 @@
 // The calls' inner steps over any device.
+#![tactic(auto)]
 
 // The open job as the program keeps it.
 pub mod open_job;

@@ -49,10 +49,10 @@ returns g c = record {
       };
 }
 
-pub returns-in-err-write : goal.returns-in-err-write
-returns-in-err-write g c =
-    let e = c.in-err-write.ensures in
-    let p = err_from_is_err_and c.from-residual.result c.from-residual.ensures.1 in
+pub returns-in_err-write : goal.returns-in_err-write
+returns-in_err-write g c =
+    let e = c.in_err-write.ensures in
+    let p = err_from_is_err_and c.from_residual.result c.from_residual.ensures.1 in
     let i = c.loop-n.invariant.1 in
     let a = c.args.first in
     let b = c.args.end in
@@ -63,14 +63,14 @@ returns-in-err-write g c =
       keeps = λ s. (e.stays (i s).0, λ a n f q. (i s).1 a n f (e.faults (i s).0 a n f q));
       writes = λ s h. rw (p.1, p.2)
           (broke (g.D.SectorDevice.meaning c.args.device.now) a (b - a) (n - a) _ (room a b _ (omega arith) h) (inside a n b low high)
-          ((i s).2 h).0 (i s).1 ((i s).2 h).1 (as_numbered a n _ low c.zero-sector-zeros.ensures (e.writes (i s).0)));
+          ((i s).2 h).0 (i s).1 ((i s).2 h).1 (as_numbered a n _ low c.zero_sector-zeros.ensures (e.writes (i s).0)));
     }
 
 pub loop-n-preserved : goal.loop-n-preserved
 loop-n-preserved g c = (
   omega arith,
   λ s.
-      let e = c.in-ok-write.ensures in
+      let e = c.in_ok-write.ensures in
       let i = c.loop-n.invariant.1 s in
       let m = g.D.SectorDevice.meaning c.args.device.now in
       let a = c.args.first in
@@ -82,7 +82,7 @@ loop-n-preserved g c = (
         λ a n f q. i.1 a n f (e.faults i.0 a n f q),
         λ h.
             let w = step m a (b - a) (n - a) (room a b _ (omega arith) h) (inside a n b low high) (i.2 h).0
-            (as_numbered a n _ low c.zero-sector-zeros.ensures (e.writes i.0)) in
+            (as_numbered a n _ low c.zero_sector-zeros.ensures (e.writes i.0)) in
             (w.0 ∙ ap (zeroed m a) (next a n low), λ _. w.1),
       ),
 )

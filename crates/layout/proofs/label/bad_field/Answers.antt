@@ -15,17 +15,17 @@ pub returns-then-layout-size : goal.returns-then-layout-size
 unfolding bad_field
 returns-then-layout-size c = grind (arith, nat_tests)
 
-pub returns-then-word-at-layout : goal.returns-then-word-at-layout
+pub returns-then-word_at-layout : goal.returns-then-word_at-layout
 unfolding bad_field
-returns-then-word-at-layout c = grind (arith, nat_tests)
+returns-then-word_at-layout c = grind (arith, nat_tests)
 
-pub returns-then-word-at-ne1 : goal.returns-then-word-at-ne1
+pub returns-then-word_at-ne1 : goal.returns-then-word_at-ne1
 unfolding bad_field
-returns-then-word-at-ne1 c = grind (arith, nat_tests)
+returns-then-word_at-ne1 c = grind (arith, nat_tests)
 
-pub returns-then-word-at-layout-2 : goal.returns-then-word-at-layout-2
+pub returns-then-word_at-layout-2 : goal.returns-then-word_at-layout-2
 unfolding bad_field
-returns-then-word-at-layout-2 c = grind (arith, nat_tests)
+returns-then-word_at-layout-2 c = grind (arith, nat_tests)
 
 pub returns-then-not-same-3 : goal.returns-then-not-same-3
 unfolding bad_field

@@ -6,5 +6,5 @@ use Rattle.layout.proofs.label.sign.Goals as goal
 pub returns : goal.returns
 returns c =
     let s = c.args.sector.now in
-    let t : c.copy-from-slice.new.self ≡ signature = c.copy-from-slice.ensures.after in
+    let t : c.copy_from_slice.new.self ≡ signature = c.copy_from_slice.ensures.after in
     ap₂ (λ (x y : List ℕ). take 510 s ++ (x ++ y)) t (nothing_behind s 510 2 c.told-sector)

@@ -5,13 +5,13 @@ use Rattle.layout.specs.Names.{name_chars, some_shown, name_char}
 use Rattle.layout.proofs.names.is_lawful.Goals as goal
 use Rattle.layout.proofs.names.is_lawful.Goals.{then-b-ne32, else-b-ne32}
 
-pub returns-then-not-is-name-char : goal.returns-then-not-is-name-char
-returns-then-not-is-name-char c =
+pub returns-then-not-is_name_char : goal.returns-then-not-is_name_char
+returns-then-not-is_name_char c =
     let s = c.args.name.now in
     let i = c.loop-b.b-index in
     let h : i < length s = omega arith in
     let e : name_chars (drop i s) ≡ (name_char (get_or s i 0) && name_chars (drop (i + 1) s)) = at_drop_more name_chars s i 0 h in
-    let b : name_char (get_or s i 0) ≡ false = cc (c.is-name-char.ensures, c.if-not-is-name-char.true) in
+    let b : name_char (get_or s i 0) ≡ false = cc (c.is_name_char.ensures, c.if-not-is_name_char.true) in
     grind (arith, nat_tests)
 
 pub loop-b-preserved : goal.loop-b-preserved
@@ -21,7 +21,7 @@ loop-b-preserved c =
     let h : i < length s = omega arith in
     let e : name_chars (drop i s) ≡ (name_char (get_or s i 0) && name_chars (drop (i + 1) s)) = at_drop_more name_chars s i 0 h in
     let f : some_shown (drop i s) ≡ (not (eqb (get_or s i 0) 32) || some_shown (drop (i + 1) s)) = at_drop_more some_shown s i 0 h in
-    let b : name_char (get_or s i 0) ≡ true = cc (c.is-name-char.ensures, c.if-not-is-name-char.false) in
+    let b : name_char (get_or s i 0) ≡ true = cc (c.is_name_char.ensures, c.if-not-is_name_char.false) in
     elim c.if-b-ne32.branch [ then-b-ne32 w ↦ (grind (arith, nat_tests), grind (arith, nat_tests)) | else-b-ne32 w ↦ (grind (arith, nat_tests), grind (arith, nat_tests)) ]
 
 pub returns : goal.returns

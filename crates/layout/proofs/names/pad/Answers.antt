@@ -10,4 +10,4 @@ returns c =
     let n = length c.args.name.now in
     let rest : drop (n - 0) (replicate {A = ℕ} 16 32) ≡ replicate (16 - n) 32 =
     ap (λ (k : ℕ). drop k (replicate {A = ℕ} 16 32)) (sub-zero n) ∙ drop-replicate {X = ℕ} n 16 32 in
-    ap₂ (λ a b. a ++ b) c.copy-from-slice.ensures.after rest
+    ap₂ (λ a b. a ++ b) c.copy_from_slice.ensures.after rest

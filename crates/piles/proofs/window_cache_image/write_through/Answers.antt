@@ -11,7 +11,7 @@ returns c =
     let none : NothingKept p.beneath.entries.places = subst (λ x. NothingKept x.entries.places) (sym made.beneath) c.new.ensures.entries in
     let size = length_pile _ _ _ _ _ _ bytes made.first made.count in
     let back =
-    c.into-bytes.ensures ∙ ap (λ x. x.bytes.now) c.into-beneath-2.ensures ∙ ap (λ x. x.beneath.bytes.now) c.into-beneath.ensures in
-    let w = c.write_answer.ensures in
+    c.into_bytes.ensures ∙ ap (λ x. x.bytes.now) c.into_beneath-2.ensures ∙ ap (λ x. x.beneath.bytes.now) c.into_beneath.ensures in
+    let w = c.write-answer.ensures in
     written_through _ _ _ _ _ _ _ _ bytes made.first made.count back size
     (w.writes (tt, λ n b h. absurd (none n b h))) (w.beneath (tt, λ n b h. absurd (none n b h)))

@@ -9,11 +9,11 @@ pub returns : goal.returns
 returns c =
     let p = c.new-pile.result in
     let made = c.new-pile.ensures in
-    let card = c.new_card.result in
+    let card = c.new-card.result in
     let none : NothingKept p.beneath.entries.places = subst (λ x. NothingKept x.entries.places) (sym made.beneath) c.new.ensures.entries in
     let same : p.beneath.beneath ≡ card = ap (λ x. x.beneath) made.beneath ∙ c.new.ensures.beneath in
     let sound : SparseSound p.beneath.beneath.places.now p.beneath.beneath.size =
-    subst (λ x. SparseSound x.places.now x.size) (sym same) c.new_card.ensures.sound in
-    let sectors = ap (λ x. sparse_sectors x.size x.places.now) same ∙ ap (λ (x : Meaning). x.sectors) c.new_card.ensures.meaning in
+    subst (λ x. SparseSound x.places.now x.size) (sym same) c.new-card.ensures.sound in
+    let sectors = ap (λ x. sparse_sectors x.size x.places.now) same ∙ ap (λ (x : Meaning). x.sectors) c.new-card.ensures.meaning in
     let size = length-zero_window _ _ _ _ _ _ sectors made.first made.count in
     written_or_full _ _ _ _ _ _ made.first size (c.write.ensures.writes (sound, λ n b h. absurd (none n b h)))

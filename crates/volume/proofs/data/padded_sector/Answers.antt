@@ -7,4 +7,4 @@ pub returns : goal.returns
 returns c =
     let p = c.args.part.now in
     let e : length p - 0 ≡ length p = omega arith in
-    simp (e, c.copy-from-slice.ensures.after, c.zero-sector-sector.ensures) (chunk_padded p c.requires)
+    simp (e, c.copy_from_slice.ensures.after, c.zero_sector-sector.ensures) (chunk_padded p c.requires)

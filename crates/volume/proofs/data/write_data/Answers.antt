@@ -9,8 +9,8 @@ use Rattle.volume.proofs.data.write_data.Goals as goal
 pub loop-i-init : goal.loop-i-init
 loop-i-init g c =
     let b = c.args.bytes.now in
-    let n : enumerate_count c.into-iter-i-iterator.result ≡ 0 = cc in
-    let e : chunks_rest (enumerate_source c.into-iter-i-iterator.result) ≡ b = cc in (
+    let n : enumerate_count c.into_iter-i-iterator.result ≡ 0 = cc in
+    let e : chunks_rest (enumerate_source c.into_iter-i-iterator.result) ≡ b = cc in (
       search rules,
       search rules,
       search rules,
@@ -23,7 +23,7 @@ pub loop-i-preserved : goal.loop-i-preserved
 loop-i-preserved g c =
     let i = c.loop-i.invariant in
     let k = c.in-Some.ensures.steps in
-    let e = c.in-ok-write-part.ensures in
+    let e = c.in_ok-write_part.ensures in
     let x = next_part i.2 i.3 k.0.1 in (
       search rules,
       search rules,
@@ -36,22 +36,22 @@ loop-i-preserved g c =
             λ a n f q. v.1 a n f ((e.keeps v.0).1 a n f q),
             λ l h.
                 performed_as (ap (filling c.args.slot 0 (chunk c.args.bytes.now)) (sym k.2))
-                (data_more c.args.layout.now c.args.slot c.in-Some.i h l c.requires x c.block-sector.ensures k.1 (v.2 l h) (e.writes v.0)),
+                (data_more c.args.layout.now c.args.slot c.in-Some.i h l c.requires x c.block_sector.ensures k.1 (v.2 l h) (e.writes v.0)),
           ),
     )
 
-pub returns-in-err-write-part : goal.returns-in-err-write-part
-returns-in-err-write-part g c =
+pub returns-in_err-write_part : goal.returns-in_err-write_part
+returns-in_err-write_part g c =
     let i = c.loop-i.invariant in
     let k = c.in-Some.ensures.steps in
-    let e = c.in-err-write-part.ensures in
-    let p = err_from_is_err_and c.from-residual.result c.from-residual.ensures.1 in
+    let e = c.in_err-write_part.ensures in
+    let p = err_from_is_err_and c.from_residual.result c.from_residual.ensures.1 in
     record {
       keeps = λ s. let v = i.5 s in ((e.keeps v.0).0, λ a n f q. v.1 a n f ((e.keeps v.0).1 a n f q));
       runs = λ s l h.
           let v = i.5 s in
           rw (p.1, p.2)
-          (data_cut c.args.layout.now c.args.slot c.in-Some.i v.1 h l c.requires (next_part i.2 i.3 k.0.1) c.block-sector.ensures k.1 (v.2 l h) (e.writes v.0));
+          (data_cut c.args.layout.now c.args.slot c.in-Some.i v.1 h l c.requires (next_part i.2 i.3 k.0.1) c.block_sector.ensures k.1 (v.2 l h) (e.writes v.0));
     }
 
 pub returns : goal.returns

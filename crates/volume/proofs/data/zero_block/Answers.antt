@@ -3,10 +3,10 @@ use Rattle.volume.proofs.data.zero_block.Goals as goal
 
 pub returns : goal.returns
 returns g c =
-    let w = c.write-zeros.ensures in
+    let w = c.write_zeros.ensures in
     record {
       keeps = w.keeps;
       runs = λ s l h b.
-          block_zeroed _ c.args.layout.now (g.D.SectorDevice.meaning c.args.device.now) _ c.args.slot c.args.count c.write-zeros.result
-          c.block.ensures c.block-sector.ensures h l b (w.writes s);
+          block_zeroed _ c.args.layout.now (g.D.SectorDevice.meaning c.args.device.now) _ c.args.slot c.args.count c.write_zeros.result
+          c.block.ensures c.block_sector.ensures h l b (w.writes s);
     }

@@ -7,6 +7,6 @@ pub returns : goal.returns
 unfolding spliced
 returns c =
     let o = 32 * (c.args.slot % 16) in
-    let p : c.entry-place-at.result.offset ≡ o = ap (λ (x : EntryPlace). x.offset) c.entry-place-at.ensures in
+    let p : c.entry_place-at.result.offset ≡ o = ap (λ (x : EntryPlace). x.offset) c.entry_place-at.ensures in
     let e : o + 32 - o ≡ 32 = omega arith in
-    simp (p, e, c.copy-from-slice.ensures.after, c.encode.ensures.value)
+    simp (p, e, c.copy_from_slice.ensures.after, c.encode.ensures.value)

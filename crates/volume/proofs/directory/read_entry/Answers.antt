@@ -5,9 +5,9 @@ use Rattle.volume.proofs.directory.read_entry.Goals as goal
 
 pub returns : goal.returns
 returns g c =
-    let r = c.in-ok-read.ensures in
-    let e = ap (λ (x : EntryPlace). x.sector) c.entry-place.ensures in
+    let r = c.in_ok-read.ensures in
+    let e = ap (λ (x : EntryPlace). x.sector) c.entry_place.ensures in
     record {
       keeps = λ s. (r.stays s, r.faults s);
-      reads = λ s l h. entry_read c.args.layout.now c.args.slot l (search rules) (h.listed c.args.slot l) (reads_at e (r.reads s)) c.entry-in.ensures;
+      reads = λ s l h. entry_read c.args.layout.now c.args.slot l (search rules) (h.listed c.args.slot l) (reads_at e (r.reads s)) c.entry_in.ensures;
     }

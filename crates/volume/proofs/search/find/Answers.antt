@@ -9,11 +9,11 @@ use Rattle.volume.proofs.search.find.Goals as goal
 one_more : (k : ℕ) → 0 < k + 1
 one_more k = omega arith
 
-pub returns-in-err-turn-to : goal.returns-in-err-turn-to
-returns-in-err-turn-to g c =
-    let e = c.in-err-turn-to.ensures in
+pub returns-in_err-turn_to : goal.returns-in_err-turn_to
+returns-in_err-turn_to g c =
+    let e = c.in_err-turn_to.ensures in
     let i = c.loop-slot.invariant.1 in
-    let p = err_from_is_err_and c.from-residual.result c.from-residual.ensures.1 in
+    let p = err_from_is_err_and c.from_residual.result c.from_residual.ensures.1 in
     record {
       inside = rw p.1 tt;
       keeps = λ s. let v = i s in ((e.keeps v.0).0, λ a n f q. v.1 a n f ((e.keeps v.0).1 a n f q));
@@ -23,9 +23,9 @@ returns-in-err-turn-to g c =
           rw (p.1, p.2) (looked_refused v.1 w (e.turns v.0 (looked_in w h c.loop-slot-test.true)));
     }
 
-pub returns-then-is-named : goal.returns-then-is-named
-returns-then-is-named g c =
-    let e = c.in-ok-turn-to.ensures in
+pub returns-then-is_named : goal.returns-then-is_named
+returns-then-is_named g c =
+    let e = c.in_ok-turn_to.ensures in
     let i = c.loop-slot.invariant.1 in
     let y = c.args.layout.now in
     let x = (g.D.SectorDevice.meaning c.args.device.now).sectors in
@@ -37,17 +37,17 @@ returns-then-is-named g c =
           let v = i s in
           let w = v.2 h in
           let z = e.turns v.0 (looked_in w.0 h c.loop-slot-test.true) in
-          let o = read_off y x k c.loop-slot-test.true (turned_to w.0 z) c.entry-in-entry.ensures c.state-state.ensures in
+          let o = read_off y x k c.loop-slot-test.true (turned_to w.0 z) c.entry_in-entry.ensures c.state-state.ensures in
           record {
             passed = passed (looked_more w.0 z) (λ _. one_more k);
             value = sought_here (named c.args.name.now) y x k c.loop-slot-test.true o w.1
-                (sym (c.is-named.ensures (place_in (places y x) k).sectors) ∙ c.if-is-named.true);
+                (sym (c.is_named.ensures (place_in (places y x) k).sectors) ∙ c.if-is_named.true);
           };
     }
 
 pub loop-slot-preserved : goal.loop-slot-preserved
 loop-slot-preserved g c =
-    let e = c.in-ok-turn-to.ensures in
+    let e = c.in_ok-turn_to.ensures in
     let i = c.loop-slot.invariant.1 in
     let y = c.args.layout.now in
     let x = (g.D.SectorDevice.meaning c.args.device.now).sectors in
@@ -60,10 +60,10 @@ loop-slot-preserved g c =
             λ h.
                 let w = v.2 h in
                 let z = e.turns v.0 (looked_in w.0 h c.loop-slot-test.true) in
-                let o = read_off y x k c.loop-slot-test.true (turned_to w.0 z) c.entry-in-entry.ensures c.state-state.ensures in (
+                let o = read_off y x k c.loop-slot-test.true (turned_to w.0 z) c.entry_in-entry.ensures c.state-state.ensures in (
                   looked_more w.0 z,
                   sought_not (named c.args.name.now) y x k c.loop-slot-test.true o w.1
-                      (sym (c.is-named.ensures (place_in (places y x) k).sectors) ∙ c.if-is-named.false),
+                      (sym (c.is_named.ensures (place_in (places y x) k).sectors) ∙ c.if-is_named.false),
                 ),
           ),
     )

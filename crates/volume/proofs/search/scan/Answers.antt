@@ -6,11 +6,11 @@ use Rattle.plans.specs.Slots.{job_in, usable, named}
 use Rattle.volume.proofs.Passes.{turned_to, looked_more, looked_in, looked_refused, passed, read_off, found_more, found_all, in_more, in_all}
 use Rattle.volume.proofs.search.scan.Goals as goal
 
-pub returns-in-err-turn-to : goal.returns-in-err-turn-to
-returns-in-err-turn-to g c =
-    let e = c.in-err-turn-to.ensures in
+pub returns-in_err-turn_to : goal.returns-in_err-turn_to
+returns-in_err-turn_to g c =
+    let e = c.in_err-turn_to.ensures in
     let i = c.loop-slot.invariant.2 in
-    let p = err_from_is_err_and c.from-residual.result c.from-residual.ensures.1 in
+    let p = err_from_is_err_and c.from_residual.result c.from_residual.ensures.1 in
     record {
       inside = rw p.1 tt;
       keeps = λ s. let v = i s in ((e.keeps v.0).0, λ a n f q. v.1 a n f ((e.keeps v.0).1 a n f q));
@@ -22,20 +22,20 @@ returns-in-err-turn-to g c =
 
 pub loop-slot-preserved : goal.loop-slot-preserved
 loop-slot-preserved g c =
-    let e = c.in-ok-turn-to.ensures in
+    let e = c.in_ok-turn_to.ensures in
     let q = c.loop-slot.invariant.1 in
     let i = c.loop-slot.invariant.2 in
     let y = c.args.layout.now in
     let x = (g.D.SectorDevice.meaning c.args.device.now).sectors in
     let k = c.loop-slot.slot in
     let l = c.loop-slot-test.true in
-    let b = c.entry-in-entry.result in
+    let b = c.entry_in-entry.result in
     let a = (place_in (places y x) k).sectors in (
       search rules,
       (
-        in_more _ c.is-named.result k b c.then-some.ensures c.or-scan.ensures q.0,
-        in_more _ c.is-named-in-loop-slot.result k b c.then-some-in-loop-slot.ensures c.or-scan-in-loop-slot.ensures q.1,
-        in_more _ c.is_usable.result k b c.then-some-in-loop-slot-2.ensures c.or-scan-in-loop-slot-2.ensures q.2,
+        in_more _ c.is_named.result k b c.then_some.ensures c.or-scan.ensures q.0,
+        in_more _ c.is_named-in-loop-slot.result k b c.then_some-in-loop-slot.ensures c.or-scan-in-loop-slot.ensures q.1,
+        in_more _ c.is_usable.result k b c.then_some-in-loop-slot-2.ensures c.or-scan-in-loop-slot-2.ensures q.2,
       ),
       λ s.
           let v = i s in (
@@ -44,11 +44,11 @@ loop-slot-preserved g c =
             λ h.
                 let w = v.2 h in
                 let z = e.turns v.0 (looked_in w.0 h l) in
-                let o = read_off y x k l (turned_to w.0 z) c.entry-in-entry.ensures c.state-state.ensures in (
+                let o = read_off y x k l (turned_to w.0 z) c.entry_in-entry.ensures c.state-state.ensures in (
                   looked_more w.0 z,
-                  found_more (named c.args.one.now) y x k l o (c.is-named.ensures a) c.then-some.ensures c.or-scan.ensures w.1,
-                  found_more (named c.args.other.now) y x k l o (c.is-named-in-loop-slot.ensures a) c.then-some-in-loop-slot.ensures c.or-scan-in-loop-slot.ensures w.2,
-                  found_more usable y x k l o (c.is_usable.ensures (job_in b a)) c.then-some-in-loop-slot-2.ensures c.or-scan-in-loop-slot-2.ensures w.3,
+                  found_more (named c.args.one.now) y x k l o (c.is_named.ensures a) c.then_some.ensures c.or-scan.ensures w.1,
+                  found_more (named c.args.other.now) y x k l o (c.is_named-in-loop-slot.ensures a) c.then_some-in-loop-slot.ensures c.or-scan-in-loop-slot.ensures w.2,
+                  found_more usable y x k l o (c.is_usable.ensures (job_in b a)) c.then_some-in-loop-slot-2.ensures c.or-scan-in-loop-slot-2.ensures w.3,
                 ),
           ),
     )

@@ -8,10 +8,10 @@ use Rattle.caching.proofs.cache.CacheSectorDevice.write.Goals as goal
 pub returns : goal.returns
 returns g c =
     let xs = c.args.self.now.entries.places in
-    let a = c.write_answer.result in
-    let e = c.write_answer.ensures in
-    let p = passed c.in-ok-check-transfer.ensures in
-    let followed = subst (λ (v : Bool). Followed xs c.follow.new.self.places c.args.n c.args.buf.now v) c.is-ok.ensures.value c.follow.ensures in
+    let a = c.write-answer.result in
+    let e = c.write-answer.ensures in
+    let p = passed c.in_ok-check_transfer.ensures in
+    let followed = subst (λ (v : Bool). Followed xs c.follow.new.self.places c.args.n c.args.buf.now v) c.is_ok.ensures.value c.follow.ensures in
     record {
       stays = λ s.
           let h = subst (λ (j : ℕ). c.args.n < j) (c.size.ensures.value s.0) p.1 in
@@ -19,6 +19,6 @@ returns g c =
       faults = λ s. raised_within (λ n. n) (e.faults s.0);
       writes = λ s.
           let h = subst (λ (j : ℕ). c.args.n < j) (c.size.ensures.value s.0) p.1 in
-          passed_writes c.passed-on.ensures p.0 h (e.writes s.0);
-      keeps = λ ok. kept_after c.args.n c.args.buf.now a xs _ followed (sym c.passed-on.ensures ∙ ok);
+          passed_writes c.passed_on.ensures p.0 h (e.writes s.0);
+      keeps = λ ok. kept_after c.args.n c.args.buf.now a xs _ followed (sym c.passed_on.ensures ∙ ok);
     }

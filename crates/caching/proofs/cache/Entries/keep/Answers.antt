@@ -4,4 +4,4 @@ use Rattle.caching.proofs.cache.Entries.keep.Goals as goal
 
 pub returns : goal.returns
 returns c =
-    kept_too _ _ _ _ c.loop-i.i _ _ (search rules) (omega arith) c.loop-i-test.false c.copy-from-slice.ensures.after c.loop-i.invariant.1
+    kept_too _ _ _ _ c.loop-i.i _ _ (search rules) (omega arith) c.loop-i-test.false c.copy_from_slice.ensures.after c.loop-i.invariant.1

@@ -9,23 +9,23 @@ unfolding entry_in
 returns c =
     let b = c.args.bytes.now in
     let e : Entry = record {
-      name = c.copy-from-slice.new.self;
+      name = c.copy_from_slice.new.self;
       kind = get_or b 16 0;
       attributes = get_or b 17 0;
-      slot = c.word-at.result;
+      slot = c.word_at.result;
       first = c.double_at.result;
-      size = c.word-at-2.result;
+      size = c.word_at-2.result;
       sectors = get_or b 26 0;
-      address = c.word-at-3.result;
-      reserved = c.copy-from-slice-2.new.self;
+      address = c.word_at-3.result;
+      reserved = c.copy_from_slice-2.new.self;
     } in
     let value : e ≡ entry_in b =
     simp (
-      c.copy-from-slice.ensures.after,
-      c.copy-from-slice-2.ensures.after,
-      c.word-at.ensures,
+      c.copy_from_slice.ensures.after,
+      c.copy_from_slice-2.ensures.after,
+      c.word_at.ensures,
       c.double_at.ensures,
-      c.word-at-2.ensures,
-      c.word-at-3.ensures,
+      c.word_at-2.ensures,
+      c.word_at-3.ensures,
     ) in
     record { value = value; back = ap entry_bytes value ∙ bytes_back b c.told-bytes c.fits-bytes }

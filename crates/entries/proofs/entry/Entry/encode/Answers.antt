@@ -15,14 +15,14 @@ returns c =
     let b3 = put_double b2 20 e.first in
     let b4 = put_word b3 24 e.size in
     let b5 = put_word (set b4 26 e.sectors) 27 e.address in
-    let e2 : c.put-word.new.bytes ≡ b2 = c.put-word.ensures in
+    let e2 : c.put_word.new.bytes ≡ b2 = c.put_word.ensures in
     let e3 : c.put_double.new.bytes ≡ b3 = c.put_double.ensures ∙ ap (λ (b : List ℕ). put_double b 20 e.first) e2 in
-    let e4 : c.put-word-2.new.bytes ≡ b4 = c.put-word-2.ensures ∙ ap (λ (b : List ℕ). put_word b 24 e.size) e3 in
-    let e5 : c.put-word-3.new.bytes ≡ b5 = c.put-word-3.ensures ∙ ap (λ (b : List ℕ). put_word (set b 26 e.sectors) 27 e.address) e4 in
-    let r : c.copy-from-slice.new.self ≡ e.reserved = c.copy-from-slice.ensures.after in
-    let n : c.copy-from-slice-2.new.self ≡ e.name = c.copy-from-slice-2.ensures.after in
+    let e4 : c.put_word-2.new.bytes ≡ b4 = c.put_word-2.ensures ∙ ap (λ (b : List ℕ). put_word b 24 e.size) e3 in
+    let e5 : c.put_word-3.new.bytes ≡ b5 = c.put_word-3.ensures ∙ ap (λ (b : List ℕ). put_word (set b 26 e.sectors) 27 e.address) e4 in
+    let r : c.copy_from_slice.new.self ≡ e.reserved = c.copy_from_slice.ensures.after in
+    let n : c.copy_from_slice-2.new.self ≡ e.name = c.copy_from_slice-2.ensures.after in
     let value =
-    ap (λ (b : List ℕ). c.copy-from-slice-2.new.self ++ post_of 0 16 (put_mid 29 3 b c.copy-from-slice.new.self)) e5
+    ap (λ (b : List ℕ). c.copy_from_slice-2.new.self ++ post_of 0 16 (put_mid 29 3 b c.copy_from_slice.new.self)) e5
     ∙ ap₂ (λ (x y : List ℕ). x ++ post_of 0 16 (put_mid 29 3 b5 y)) n r
     ∙ ap (λ (x : List ℕ). e.name ++ post_of 0 16 (take 29 b5 ++ x)) (append-nil e.reserved) in
     record { value = value; back = ap entry_in value ∙ entry_back e (search rules) (search rules) }

@@ -8,9 +8,9 @@ pub returns-then-slot-layout : goal.returns-then-slot-layout
 unfolding live_entry lawful_fields
 returns-then-slot-layout c = grind (arith, nat_tests)
 
-pub returns-then-is-none : goal.returns-then-is-none
+pub returns-then-is_none : goal.returns-then-is_none
 unfolding live_entry lawful_fields
-returns-then-is-none c = grind (arith, nat_tests)
+returns-then-is_none c = grind (arith, nat_tests)
 
 pub returns-then-self-slot : goal.returns-then-self-slot
 unfolding live_entry lawful_fields
@@ -22,4 +22,4 @@ returns-then-self-block c = grind (arith, nat_tests)
 
 pub returns : goal.returns
 unfolding live_entry lawful_fields
-returns c = let h = c.if-is-none.ensures in let e = c.extent.ensures.value in grind (arith, nat_tests)
+returns c = let h = c.if-is_none.ensures in let e = c.extent.ensures.value in grind (arith, nat_tests)

@@ -15,10 +15,10 @@ pub returns-in-127 : goal.returns-in-127
 unfolding state_by
 returns-in-127 c = grind (arith, nat_tests)
 
-pub returns-then-is-live : goal.returns-then-is-live
+pub returns-then-is_live : goal.returns-then-is_live
 unfolding state_by
-returns-then-is-live c = grind (arith, nat_tests)
+returns-then-is_live c = grind (arith, nat_tests)
 
-pub returns-else-is-live : goal.returns-else-is-live
+pub returns-else-is_live : goal.returns-else-is_live
 unfolding state_by
-returns-else-is-live c = grind (arith, nat_tests)
+returns-else-is_live c = grind (arith, nat_tests)

@@ -6,9 +6,9 @@ unfolding label_in
 returns c = simp (
   c.of.ensures,
   c.double_at.ensures,
-  c.word-at.ensures,
-  c.word-at-2.ensures,
-  c.word-at-3.ensures,
-  c.copy-from-slice.ensures.after,
-  c.copy-from-slice-2.ensures.after,
+  c.word_at.ensures,
+  c.word_at-2.ensures,
+  c.word_at-3.ensures,
+  c.copy_from_slice.ensures.after,
+  c.copy_from_slice-2.ensures.after,
 )

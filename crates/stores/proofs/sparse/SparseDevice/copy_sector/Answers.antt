@@ -17,5 +17,5 @@ returns-then-kept-n c =
     let d = c.args.self.now in
     let i = c.loop-i.i in
     let a : KeptIn (get_or d.places.now i None) c.args.n = search rules in
-    let e : c.copy-from-slice.new.self ≡ bytes_in (get_or d.places.now i None) = search rules in
+    let e : c.copy_from_slice.new.self ≡ bytes_in (get_or d.places.now i None) = search rules in
     e ∙ sym (sector_at d.size c.args.n i d.places.now c.requires.1 c.loop-i-test.true c.loop-i.invariant a)

@@ -6,22 +6,22 @@ use Rattle.stores.proofs.SparseTables.{length_sparse}
 use Rattle.stores.proofs.SparseTransfers.{sparse_read, sparse_read_refused}
 use Rattle.stores.proofs.sparse.SparseDeviceSectorDevice.read.Goals as goal
 
-pub returns-in-err-check-transfer : goal.returns-in-err-check-transfer
-returns-in-err-check-transfer c =
+pub returns-in_err-check_transfer : goal.returns-in_err-check_transfer
+returns-in_err-check_transfer c =
     let d = c.args.self.now in
-    let p = err_from_is_err_and c.from-residual.result c.from-residual.ensures.1 in
+    let p = err_from_is_err_and c.from_residual.result c.from_residual.ensures.1 in
     record {
       stays = λ s. s;
       faults = λ s a k f z. z;
-      reads = λ s. rw (p.1, p.2) (refused_read (sym (length_sparse d.size d.places.now)) c.in-err-check-transfer.ensures);
-      accepted = λ w l m. p.1 ∙ ap Err p.2 ∙ c.in-err-check-transfer.ensures.otherwise l m;
+      reads = λ s. rw (p.1, p.2) (refused_read (sym (length_sparse d.size d.places.now)) c.in_err-check_transfer.ensures);
+      accepted = λ w l m. p.1 ∙ ap Err p.2 ∙ c.in_err-check_transfer.ensures.otherwise l m;
       unchanged = refl;
     }
 
 pub returns-then-self : goal.returns-then-self
 returns-then-self c =
     let d = c.args.self.now in
-    let p = passed c.in-ok-check-transfer.ensures in
+    let p = passed c.in_ok-check_transfer.ensures in
     record {
       stays = λ s. s;
       faults = λ s a k f z. z;
@@ -33,11 +33,11 @@ returns-then-self c =
 pub returns : goal.returns
 returns c =
     let d = c.args.self.now in
-    let p = passed c.in-ok-check-transfer.ensures in
+    let p = passed c.in_ok-check_transfer.ensures in
     record {
       stays = λ s. s;
       faults = λ s a k f z. z;
-      reads = λ s. sparse_read d.places.now d.size d.geometry d.failed c.args.n _ _ c.if-self.false p.1 p.0 c.copy-sector.ensures;
+      reads = λ s. sparse_read d.places.now d.size d.geometry d.failed c.args.n _ _ c.if-self.false p.1 p.0 c.copy_sector.ensures;
       accepted = λ w l m. refl;
       unchanged = refl;
     }

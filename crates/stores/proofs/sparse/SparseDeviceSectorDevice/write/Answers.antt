@@ -8,11 +8,11 @@ use Rattle.stores.proofs.SparseTables.{length_sparse, sectors_given_back, sound_
 use Rattle.stores.proofs.SparseTransfers.{sparse_write, sparse_write_refused, begins_elsewhere, begins_unchecked, begins_not, begins_here}
 use Rattle.stores.proofs.sparse.SparseDeviceSectorDevice.write.Goals as goal
 
-pub returns-in-err-check-transfer : goal.returns-in-err-check-transfer
-returns-in-err-check-transfer c =
+pub returns-in_err-check_transfer : goal.returns-in_err-check_transfer
+returns-in_err-check_transfer c =
     let d = c.args.self.now in
-    let p = err_from_is_err_and c.from-residual.result c.from-residual.ensures.1 in
-    let t = c.in-err-check-transfer.ensures in
+    let p = err_from_is_err_and c.from_residual.result c.from_residual.ensures.1 in
+    let t = c.in_err-check_transfer.ensures in
     record {
       stays = λ s. s;
       faults = λ s a k f z. z;
@@ -24,7 +24,7 @@ returns-in-err-check-transfer c =
 pub returns-then-self : goal.returns-then-self
 returns-then-self c =
     let d = c.args.self.now in
-    let p = passed c.in-ok-check-transfer.ensures in
+    let p = passed c.in_ok-check_transfer.ensures in
     record {
       stays = λ s. s;
       faults = λ s a k f z. z;
@@ -36,13 +36,13 @@ returns-then-self c =
       table = refl;
     }
 
-pub returns-then-is-zero : goal.returns-then-is-zero
-returns-then-is-zero c =
+pub returns-then-is_zero : goal.returns-then-is_zero
+returns-then-is_zero c =
     let d = c.args.self.now in
     let xs = d.places.now in
-    let p = passed c.in-ok-check-transfer.ensures in
-    let z = c.if-is-zero.ensures.0 refl in
-    let e = c.give-back.ensures in
+    let p = passed c.in_ok-check_transfer.ensures in
+    let z = c.if-is_zero.ensures.0 refl in
+    let e = c.give_back.ensures in
     record {
       stays = λ s. subst (λ (v : Places). SparseSound v d.size) (sym e) (sound_given_back d.size c.args.n xs s);
       faults = λ s a k f q. q;
@@ -61,15 +61,15 @@ returns-in-Some c =
     let n = c.args.n in
     let i = c.in-Some.i in
     let b = c.args.buf.now in
-    let p = passed c.in-ok-check-transfer.ensures in
-    let o : b ≢ zeros 512 = λ z. both_ways c.is-zero.result c.if-is-zero.false (c.is-zero.ensures.1 z) in
+    let p = passed c.in_ok-check_transfer.ensures in
+    let o : b ≢ zeros 512 = λ z. both_ways c.is_zero.result c.if-is_zero.false (c.is_zero.ensures.1 z) in
     let place = c.in-Some.ensures in
-    let e : set xs i (Some (record { sector = n; bytes = c.copy-from-slice.new.self })) ≡ set xs i (Some (record { sector = n; bytes = b })) =
-    ap (λ (v : List ℕ). set xs i (Some (record { sector = n; bytes = v }))) c.copy-from-slice.ensures.after in
+    let e : set xs i (Some (record { sector = n; bytes = c.copy_from_slice.new.self })) ≡ set xs i (Some (record { sector = n; bytes = b })) =
+    ap (λ (v : List ℕ). set xs i (Some (record { sector = n; bytes = v }))) c.copy_from_slice.ensures.after in
     record {
       stays = λ s.
           subst (λ (v : Places). SparseSound v d.size) (sym e)
-          (sound_placed d.size i n xs b s place (record { there = p.1; whole = p.0; bytes = λ k. (c.type-inv.buf k).fits; needed = o }));
+          (sound_placed d.size i n xs b s place (record { there = p.1; whole = p.0; bytes = λ k. (c.type_inv.buf k).fits; needed = o }));
       faults = λ s a k f q. q;
       writes = λ s.
           sparse_write xs _ d.size d.geometry d.failed n b c.if-self.false p.1 p.0
@@ -81,8 +81,8 @@ returns-in-Some c =
 pub returns-in-None : goal.returns-in-None
 returns-in-None c =
     let d = c.args.self.now in
-    let p = passed c.in-ok-check-transfer.ensures in
-    let o : c.args.buf.now ≢ zeros 512 = λ z. both_ways c.is-zero.result c.if-is-zero.false (c.is-zero.ensures.1 z) in
+    let p = passed c.in_ok-check_transfer.ensures in
+    let o : c.args.buf.now ≢ zeros 512 = λ z. both_ways c.is_zero.result c.if-is_zero.false (c.is_zero.ensures.1 z) in
     record {
       stays = λ s. s;
       faults = λ s a k f z. z;
