@@ -1,14 +1,14 @@
 -- Writes in a row.
-use Rattle.std.proofs.Common.{◌≡◌, ℕ, zero, suc, ◌+◌, ◌-◌, ◌<◌, ◌≤◌, ◌≢◌, ◌⊎◌, List, [], ◌∷◌, ◌++◌, length, get_or, take, set, Ok, Err, Result, sym, refl, ap, ◌∙◌, subst, inl, inr, add-zero, add-one, arith}
+use Rattle.std.proofs.Common.{◌≡◌, ℕ, zero, suc, ◌+◌, ◌<◌, ◌≤◌, ◌≢◌, ◌⊎◌, List, [], ◌∷◌, ◌++◌, length, get_or, take, set, Ok, Err, sym, refl, ap, ◌∙◌, subst, inl, inr, add-zero, add-one, arith}
 use Rattle.std.proofs.lemmas.List.{length-set, get_or-set_same, get_or-set_other}
 use Rattle.std.proofs.lemmas.Bool.{cases_eq}
 use Rattle.device.specs.Faults.{Faults, Within}
-use Rattle.device.specs.Meaning.{Meaning, Sectors, MayAccept, MayRefuse, with_sector, now_failed, zeros, well}
+use Rattle.device.specs.Meaning.{Meaning, Sectors, MayAccept, with_sector, now_failed, zeros, well}
 use Rattle.device.specs.Transfers.{Writes, OldOrNew}
 use Rattle.device.specs.declared.faults.Fault.{Fault}
-use Rattle.device.specs.declared.faults.Act.TheVariants.{Read, Write}
+use Rattle.device.specs.declared.faults.Act.TheVariants.{Write}
 use Rattle.device.proofs.Zeros.{length-zeros}
-use Rattle.runs.specs.Writes.{SectorWrite, write_of, applied, with_sectors, failed_with, Completed, Interrupted, Written, zeroing}
+use Rattle.runs.specs.Writes.{SectorWrite, write_of, applied, with_sectors, failed_with, Interrupted, zeroing}
 
 none : (i : ℕ) → i < 0 → ⊥
 none i h = omega arith

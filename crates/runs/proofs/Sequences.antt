@@ -1,13 +1,13 @@
 -- One list of writes after another.
-use Rattle.std.proofs.Common.{◌≡◌, ℕ, zero, suc, ◌+◌, ◌-◌, ◌<◌, ◌≤◌, ◌⊎◌, List, [], ◌∷◌, ◌++◌, length, get_or, take, set, Ok, Err, Result, sym, refl, ap, ◌∙◌, subst, inl, inr, arith, lit<}
+use Rattle.std.proofs.Common.{◌≡◌, ℕ, suc, ◌+◌, ◌<◌, ◌≤◌, ◌⊎◌, List, [], ◌∷◌, ◌++◌, length, take, set, Ok, Err, sym, refl, ap, ◌∙◌, subst, inl, inr, arith, lit<}
 use Rattle.std.proofs.lemmas.List.{length-append, get_or_append_left, get_or-append-add, take-append-le}
 use Rattle.device.specs.Faults.{Faults, Within}
-use Rattle.device.specs.Meaning.{Meaning, Sectors, MayAccept, MayRefuse, well}
+use Rattle.device.specs.Meaning.{Meaning, Sectors}
 use Rattle.device.specs.Transfers.{Writes}
 use Rattle.device.specs.declared.faults.Fault.{Fault}
-use Rattle.device.specs.declared.faults.Act.TheVariants.{Read, Write}
+use Rattle.device.specs.declared.faults.Act.TheVariants.{Write}
 use Rattle.runs.proofs.Runs.{length-applied}
-use Rattle.runs.specs.Writes.{SectorWrite, write_of, applied, with_sectors, failed_with, Completed, Interrupted, Written}
+use Rattle.runs.specs.Writes.{SectorWrite, write_of, applied, with_sectors, failed_with, Completed, Interrupted}
 
 pub applied-append : (s : Sectors) (ws vs : List SectorWrite) → applied s (ws ++ vs) ≡ applied (applied s ws) vs
 unfolding applied

@@ -1,6 +1,6 @@
 -- A list of sector writes on a device: all carried out, or interrupted. A write that is found on the card persists,
 -- accepted or not; after a refused write none follows.
-use Rattle.std.specs.Prelude.{◌≡◌, ℕ, zero, suc, ◌+◌, ◌<◌, ◌≤◌, ◌⊎◌, List, [], ◌∷◌, length, take, Ok, Err, Result, slice_index_or, slice_set}
+use Rattle.std.specs.Prelude.{◌≡◌, ℕ, zero, suc, ◌+◌, ◌<◌, ◌⊎◌, List, [], ◌∷◌, length, take, Ok, Err, Result, slice_index_or, slice_set}
 use Rattle.device.specs.Faults.{Faults}
 use Rattle.device.specs.Meaning.{Meaning, Sectors, MayAccept, MayRefuse, zeros, failed, well}
 use Rattle.device.specs.declared.faults.Fault.{Fault}

@@ -298,7 +298,7 @@ below k n b h = ap (λ (x : Bool). x && b) (lt-ltb k n h)
 -- what stands in a slot, by the state of its entry
 pub decoded_at : (c : Layout) (s : Sectors) (k : ℕ) → k < c.slots →
     decoded (place_in (places c s) k) ≡ as_slot (state_of c k (entry_of (place_in (places c s) k))) (job_in (entry_of (place_in (places c s) k)) (place_in (places c s) k).sectors)
-unfolding decoded slot_by live_entry
+unfolding decoded slot_by live_entry lawful_fields state_of state_by
 decoded_at c s k h =
     let p = place_in (places c s) k in
     let e = entry_of p in

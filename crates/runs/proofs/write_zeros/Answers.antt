@@ -1,10 +1,10 @@
-use Rattle.std.proofs.Common.{◌≡◌, ℕ, ◌+◌, ◌-◌, ◌<◌, ◌≤◌, ◌⊎◌, List, length, Result, sym, refl, ap, ◌∙◌, subst, inl, inr, arith}
+use Rattle.std.proofs.Common.{◌≡◌, ℕ, ◌+◌, ◌-◌, ◌<◌, ◌≤◌, List, Result, ap, ◌∙◌, subst, arith}
 use Rattle.std.proofs.lemmas.Result.{err_from_is_err_and}
 use Rattle.device.specs.Faults.{Faults}
 use Rattle.device.specs.Meaning.{Meaning, zeros}
 use Rattle.device.specs.Transfers.{Writes}
 use Rattle.device.specs.declared.faults.Fault.{Fault}
-use Rattle.runs.specs.Writes.{SectorWrite, applied, zeroing}
+use Rattle.runs.specs.Writes.{applied, zeroing}
 use Rattle.runs.proofs.Runs.{zeroed, length-zeroing, step, broke}
 use Rattle.runs.proofs.write_zeros.Goals as goal
 
