@@ -1,5 +1,5 @@
 -- An entry's bytes give the entry back, and an entry gives its bytes back.
-use Rattle.std.proofs.Common.{◌≡◌, ℕ, zero, suc, ◌+◌, ◌-◌, ◌*◌, ◌/◌, ◌%◌, ◌<◌, ◌≤◌, List, [], ◌∷◌, ◌++◌, length, get_or, take, drop, sym, refl, ap, ◌∙◌, ap₂, arith, lit≤, drop-cons}
+use Rattle.std.proofs.Common.{◌≡◌, ℕ, zero, suc, ◌+◌, ◌-◌, ◌*◌, ◌/◌, ◌%◌, ◌<◌, ◌≤◌, List, [], ◌∷◌, ◌++◌, length, get_or, take, drop, sym, ap, ◌∙◌, arith, lit≤, drop-cons}
 use Rattle.std.proofs.lemmas.List.{get_or-append_right, take_at, drop_at, take_all, drop-drop, length-drop, take-append-drop}
 use Rattle.device.specs.Meaning.{Bytes}
 use Rattle.layout.specs.Bytes.{part}

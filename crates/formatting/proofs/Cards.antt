@@ -21,7 +21,7 @@ use Rattle.refusals.specs.declared.Refusal.TheVariants.{Device, Name as BadName,
 use Rattle.runs.specs.Writes.{SectorWrite, write_of, applied, failed_with, zeroing, Completed, Interrupted}
 use Rattle.runs.proofs.Runs.{applied_more, length-applied, length-zeroing, take-zeroing, zeroed_within, zeroed_outside}
 use Rattle.runs.proofs.Sequences.{completed_completed, completed_interrupted, interrupted_more, completed_length, one_completed, one_interrupted}
-use Rattle.formatting.specs.Format.{Plan, new_label, format_writes, format_plan, refuse, write, Follows, Formats, NewCard, NoCard, Leaves}
+use Rattle.formatting.specs.Format.{Plan, new_label, format_writes, format_plan, write, Follows, Formats, NewCard, NoCard, Leaves}
 
 -- the zeros end where the data area starts
 zeros_to : (P : List SectorWrite → Type 0) (x a n : ℕ) → x ≡ a → a ≤ n → (x ≤ n → P (zeroing 0 (x - 0))) → P (zeroing 0 a)

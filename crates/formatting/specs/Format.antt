@@ -1,5 +1,5 @@
 -- What format does to a device m, in order; what it leaves, wherever it is broken off; and what a label read back says.
-use Rattle.std.specs.Prelude.{◌≡◌, ℕ, ◌<◌, ◌≤◌, cond, ◌⊎◌, List, [], ◌∷◌, ◌++◌, length, Some, None, Ok, Err, Result, nat_lt, slice_index_or}
+use Rattle.std.specs.Prelude.{◌≡◌, ℕ, ◌<◌, ◌≤◌, cond, ◌⊎◌, List, [], ◌∷◌, ◌++◌, length, Some, Ok, Err, Result, nat_lt, slice_index_or}
 use Rattle.device.specs.Faults.{Faults}
 use Rattle.device.specs.Meaning.{Meaning, Sectors, MayAccept, MayRefuse, now_failed, sector, zeros}
 use Rattle.device.specs.declared.faults.Fault.{Fault}

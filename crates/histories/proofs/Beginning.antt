@@ -1,8 +1,8 @@
 -- A new card agrees with the new model: every slot is empty.
-use Rattle.std.proofs.Common.{◌≡◌, ℕ, zero, suc, ◌+◌, ◌-◌, ◌*◌, ◌/◌, ◌%◌, ◌<◌, ◌≤◌, Bool, true, false, cond, ◌&&◌, ltb, leb, List, [], ◌∷◌, ◌++◌, map, length, get_or, take, drop, set, replicate, Some, None, Ok, Err, Option, Result, sym, refl, ap, ◌∙◌, subst, ap₂, inl, inr, arith}
+use Rattle.std.proofs.Common.{◌≡◌, ℕ, zero, suc, ◌+◌, ◌-◌, ◌*◌, ◌/◌, ◌%◌, ◌<◌, ◌≤◌, Bool, true, false, cond, ltb, leb, List, [], ◌∷◌, map, length, get_or, take, drop, replicate, Some, None, Ok, Option, Result, sym, refl, ap, ◌∙◌, subst, ap₂, inl, inr, arith}
 use Rattle.std.proofs.lemmas.List.{get_or_past, get_or-replicate, length-replicate}
 use Rattle.std.proofs.lemmas.Bool.{and_parts, leb-true, cases_lt}
-use Rattle.device.specs.Meaning.{Meaning, Sectors, Bytes, Lawful, zeros}
+use Rattle.device.specs.Meaning.{Meaning, Sectors, Lawful, zeros}
 use Rattle.device.proofs.Zeros.{take-zeros, drop-zeros}
 use Rattle.layout.specs.Bytes.{part}
 use Rattle.layout.specs.Label.{Field, field, checks_of, first_failing, bad_field, label_in, answered, read_label}
@@ -13,10 +13,9 @@ use Rattle.layout.specs.declared.sizes.Layout.{Layout}
 use Rattle.entries.specs.Entry.{entry_in, hold_entry}
 use Rattle.places.specs.Places.{Place, place, places, counted_up, Shaped}
 use Rattle.places.proofs.Frames.{layouts_sound, dir_below}
-use Rattle.plans.specs.Memory.{unmounted}
-use Rattle.plans.specs.Slots.{Job, Slot, empty, live, slot_by, decoded, slots_in}
+use Rattle.plans.specs.Slots.{Job, empty, live, slot_by, decoded, slots_in}
 use Rattle.plans.proofs.Entries.{emptied_by}
-use Rattle.history.specs.Agreement.{seen, Unique, Agrees, Holds}
+use Rattle.history.specs.Agreement.{seen, Agrees, Holds}
 use Rattle.history.specs.Model.{new_model}
 use Rattle.history.proofs.Agreeing.{differ}
 use Rattle.histories.specs.Steps.{State, New}

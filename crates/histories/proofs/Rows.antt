@@ -1,13 +1,11 @@
 -- The rows of a list, against the slots that they show.
-use Rattle.std.proofs.Common.{◌≡◌, ℕ, zero, suc, ◌+◌, ◌<◌, ◌≤◌, true, ◌⊎◌, List, [], ◌∷◌, map, length, get_or, set, sym, refl, ap, ◌∙◌, subst, inl, inr, add-zero, arith}
-use Rattle.std.proofs.lemmas.List.{get_or-set_same}
+use Rattle.std.proofs.Common.{◌≡◌, ℕ, zero, suc, ◌+◌, ◌<◌, true, ◌⊎◌, List, [], ◌∷◌, map, length, get_or, set, sym, refl, ap, ◌∙◌, subst, inl, inr, add-zero, arith}
 use Rattle.layout.specs.Names.{lawful_name, padded}
 use Rattle.rows.specs.declared.job_row.JobRow.{JobRow}
 use Rattle.plans.specs.Slots.{Job, Slot, empty, held, live, erased, damaged}
-use Rattle.plans.specs.Rows.{kept, job_row, row_of, rows_from, job_rows}
+use Rattle.plans.specs.Rows.{kept, job_row, rows_from, job_rows}
 use Rattle.plans.proofs.Entries.{lawful_first, lawful_short}
 use Rattle.history.specs.Agreement.{seen}
-use Rattle.history.specs.Model.{with_name}
 use Rattle.history.proofs.Agreeing.{differ, seen_live, get_or-seen}
 use Rattle.history.proofs.OneSlot.{length-padded, padded_lawful}
 use Rattle.histories.specs.Theorem.{Shows}

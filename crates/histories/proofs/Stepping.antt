@@ -1,10 +1,10 @@
 -- Every step of a history keeps card and model in agreement.
-use Rattle.std.proofs.Common.{◌≡◌, ℕ, zero, suc, ◌+◌, ◌<◌, ◌≤◌, Bool, true, false, cond, ◌&&◌, ltb, leb, ◌⊎◌, List, [], ◌∷◌, ◌++◌, length, get_or, take, Some, None, Ok, Err, Option, Result, sym, refl, ap, ◌∙◌, subst, ap₂, inl, inr, le_refl, arith}
+use Rattle.std.proofs.Common.{◌≡◌, ℕ, suc, ◌≤◌, Bool, true, false, ◌&&◌, ltb, leb, ◌⊎◌, List, [], ◌∷◌, length, take, Some, None, Ok, Err, Option, Result, sym, refl, ap, ◌∙◌, subst, inl, inr, le_refl, arith}
 use Rattle.std.proofs.lemmas.List.{take_all}
 use Rattle.std.proofs.lemmas.Bool.{and_parts, ltb-true}
 use Rattle.device.specs.Meaning.{Meaning, Sectors}
 use Rattle.device.specs.declared.faults.Fault.{Fault}
-use Rattle.layout.specs.Names.{lawful_name, name_char, padded}
+use Rattle.layout.specs.Names.{lawful_name, name_char}
 use Rattle.layout.specs.Sizes.{layout_of}
 use Rattle.layout.specs.declared.sizes.Layout.{Layout}
 use Rattle.refusals.specs.Refusals.{IsByDevice}
@@ -19,15 +19,15 @@ use Rattle.plans.specs.Rows.{known_kind}
 use Rattle.plans.specs.Slots.{decoded, slots_in, is_erased, is_live}
 use Rattle.volume.specs.Outcomes.{Ended, Performs}
 use Rattle.volume.specs.Performing.{Cut, at_write, at_read}
-use Rattle.history.specs.Agreement.{Agrees, Knows, Holds}
+use Rattle.history.specs.Agreement.{Knows, Holds}
 use Rattle.history.specs.Events.{Outcome, accepted, refused, broken, Event, called, pulled, next, after}
 use Rattle.history.specs.Model.{Model, counted, done}
-use Rattle.history.specs.Preserved.{Typed, entries_written, Preserved, Preserves}
+use Rattle.history.specs.Preserved.{Typed, entries_written, Preserves}
 use Rattle.history.proofs.Writing.{take_none}
 use Rattle.history.proofs.Preserving.{calls_preserve_lem, counted_none, no_places, unless_keeps, cond_keeps}
 use Rattle.layout.specs.Label.{bad_field}
 use Rattle.layout.specs.Words.{double_at}
-use Rattle.histories.specs.Steps.{State, any_fault, Did, writes_of, FoundBroken, TakenRefusal, Taken, Called, Renewed, Leads}
+use Rattle.histories.specs.Steps.{State, any_fault, writes_of, FoundBroken, TakenRefusal, Taken, Called, Renewed, Leads}
 
 -- A CARD THAT IS NOT MOUNTED
 

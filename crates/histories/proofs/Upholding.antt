@@ -1,16 +1,15 @@
 -- What agreement of card and model says of the next call.
-use Rattle.std.proofs.Common.{◌≡◌, ℕ, zero, suc, ◌+◌, ◌<◌, ◌≤◌, Bool, true, false, cond, ◌&&◌, ltb, leb, ◌⊎◌, ◌↔◌, List, [], ◌∷◌, map, length, get_or, set, Some, None, Ok, Err, Option, Result, sym, refl, ap, ◌∙◌, subst, ap₂, inl, inr, arith}
+use Rattle.std.proofs.Common.{◌≡◌, ℕ, ◌<◌, Bool, true, false, ◌&&◌, ltb, leb, ◌⊎◌, ◌↔◌, List, [], map, length, get_or, set, Some, Ok, Err, Result, sym, refl, ap, ◌∙◌, subst, inl, inr, arith}
 use Rattle.std.proofs.lemmas.List.{get_or-set_same}
 use Rattle.std.proofs.lemmas.Bool.{and_parts, ltb-true}
-use Rattle.device.specs.Meaning.{Meaning, Sectors, MayRefuse}
+use Rattle.device.specs.Meaning.{MayRefuse}
 use Rattle.device.specs.declared.faults.Fault.{Fault}
 use Rattle.layout.specs.Names.{lawful_name, name_char, padded}
-use Rattle.layout.specs.Sizes.{layout_of}
 use Rattle.refusals.specs.Refusals.{IsByDevice, refusal_number}
 use Rattle.refusals.specs.declared.Refusal.{Refusal}
 use Rattle.refusals.specs.declared.Refusal.TheVariants.{Name, DiskId, FileType, NotOpen, TooLong, TooSmall, Field, Open, NoJob, NotSequential, NotErased, NameTaken, NoSlot, OutOfBounds, Device}
 use Rattle.rows.specs.declared.job_row.JobRow.{JobRow}
-use Rattle.places.specs.Places.{Place, places}
+use Rattle.places.specs.Places.{Place}
 use Rattle.places.specs.SlotWrites.{SlotWrite}
 use Rattle.plans.specs.Slots.{Job, Slot, empty, live, erased, decoded, slots_in, named, is_live, is_erased, job_of, lowest}
 use Rattle.plans.specs.Calls.{Call, load, list, undelete, Answer, done as ok, loaded, jobs}
@@ -18,15 +17,15 @@ use Rattle.plans.specs.Cases.{IsLawfulName, First, cases, Refuses}
 use Rattle.plans.specs.Memory.{Memory, unmounted, card_layout}
 use Rattle.plans.specs.Plans.{Plan, tell, decline, refuse, go, Reads, at_first, plan, card_places, place_in, slot_named, restored, restored_slot, load_plan, undelete_plan}
 use Rattle.plans.specs.Rows.{job_rows}
-use Rattle.plans.proofs.Lowest.{Lowest, lowest_some, named_live, none_some}
+use Rattle.plans.proofs.Lowest.{lowest_some, named_live}
 use Rattle.plans.proofs.Refusing.{refuses_as_listed_lem}
 use Rattle.plans.proofs.Words.{lawful_name_decides}
-use Rattle.volume.specs.Outcomes.{Ended, Performs, Accepted, Broken}
+use Rattle.volume.specs.Outcomes.{Ended}
 use Rattle.volume.specs.Performing.{Cut, at_write, at_read}
-use Rattle.history.specs.Agreement.{seen, Unique, Agrees, Knows, Holds}
-use Rattle.history.specs.Events.{accepted, called, next}
+use Rattle.history.specs.Agreement.{seen, Knows, Holds}
+use Rattle.history.specs.Events.{accepted}
 use Rattle.history.specs.Model.{Model, with_name, slot_of, done}
-use Rattle.history.proofs.Agreeing.{differ, same_bytes, Named, named_hit, slot_shown, same_length}
+use Rattle.history.proofs.Agreeing.{same_bytes, named_hit, slot_shown, same_length}
 use Rattle.history.proofs.OneSlot.{seen_erased}
 use Rattle.history.proofs.Preserving.{no_places, unless_keeps, found_keeps, vacant_keeps, cond_keeps}
 use Rattle.histories.specs.Steps.{State, any_fault, Did, Called}

@@ -2,7 +2,6 @@
 use Rattle.std.specs.Prelude.{◌≡◌, ℕ, ◌<◌, ◌≤◌, List, [], ◌∷◌, length, take, Ok, Err, Result, slice_index_or}
 use Rattle.device.specs.Faults.{Faults}
 use Rattle.device.specs.Meaning.{Meaning, Lawful, zeros}
-use Rattle.device.specs.declared.faults.Fault.{Fault}
 use Rattle.layout.specs.Label.{read_label}
 use Rattle.layout.specs.Sizes.{layout_of}
 use Rattle.layout.specs.declared.label.Label.{Label}

@@ -8,8 +8,8 @@ use Rattle.refusals.specs.Refusals.{refusal_number}
 use Rattle.refusals.specs.declared.Refusal.{Refusal}
 use Rattle.refusals.specs.declared.Refusal.TheVariants.{Device}
 use Rattle.rows.specs.declared.job_row.JobRow.{JobRow}
-use Rattle.plans.specs.Slots.{Job, Slot, empty, live, erased}
-use Rattle.plans.specs.Calls.{Call, load, list, undelete, Answer, done, loaded, jobs}
+use Rattle.plans.specs.Slots.{Job, empty, live, erased}
+use Rattle.plans.specs.Calls.{Call, load, list, undelete, done, loaded, jobs}
 use Rattle.plans.specs.Cases.{IsLawfulName, First, cases}
 use Rattle.history.specs.Model.{Model, new_model, slot_of}
 use Rattle.history.specs.Events.{Event, after}

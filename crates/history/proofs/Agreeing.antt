@@ -1,16 +1,16 @@
 -- Agreement of model and card, slot by slot: what the card shows of a slot, and a slot changed in both.
-use Rattle.std.proofs.Common.{◌≡◌, ℕ, zero, suc, ◌+◌, ◌*◌, ◌<◌, ◌≤◌, Bool, true, false, cond, ◌≢◌, ◌⊎◌, List, [], ◌∷◌, ◌++◌, map, length, get_or, take, set, Some, None, Option, sym, refl, ap, ◌∙◌, subst, ap₂, inl, inr, arith}
-use Rattle.std.proofs.lemmas.List.{set-get_or, map-set, length-map, length-set, get_or-map, get_or-set_same, get_or-set_other, get_or_past}
+use Rattle.std.proofs.Common.{◌≡◌, ℕ, zero, suc, ◌<◌, Bool, true, false, cond, ◌≢◌, List, [], ◌∷◌, map, length, get_or, set, Some, None, Option, sym, refl, ap, ◌∙◌, ap₂, inl, inr, arith}
+use Rattle.std.proofs.lemmas.List.{map-set, length-map, length-set, get_or-map, get_or-set_same, get_or-set_other, get_or_past}
 use Rattle.std.proofs.lemmas.Slice.Eq.{bytes_eq-Decides}
 use Rattle.std.proofs.lemmas.Bool.{cases_lt, cases_eq, false≢true}
 use Rattle.std.specs.Str.{bytes_eq}
 use Rattle.places.specs.Places.{Place, no_place}
-use Rattle.plans.specs.Slots.{Job, Slot, empty, held, live, erased, damaged, decoded, slots_in, usable, named, is_live, is_erased, job_of, lowest, one_up}
-use Rattle.plans.specs.Memory.{OpenJob, Memory}
+use Rattle.plans.specs.Slots.{Job, Slot, empty, held, live, erased, damaged, decoded, slots_in, usable, named, is_live, lowest, one_up}
+use Rattle.plans.specs.Memory.{OpenJob}
 use Rattle.plans.specs.Plans.{place_in}
-use Rattle.plans.proofs.Lowest.{Lowest, lowest_some, lowest_none, none_some, some_same, no, named_live, usable_is}
-use Rattle.history.specs.Model.{Waiting, Model, with_name}
-use Rattle.history.specs.Agreement.{seen, Unique, OpenAgrees, Opens, Agrees}
+use Rattle.plans.proofs.Lowest.{Lowest, lowest_some, lowest_none, no, named_live}
+use Rattle.history.specs.Model.{Waiting}
+use Rattle.history.specs.Agreement.{seen, Unique, Opens, Agrees}
 
 -- constructors that differ
 pub differ : {A : Type 0} → ◌≡◌ {A = ℕ} 0 1 → A

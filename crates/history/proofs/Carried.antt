@@ -1,10 +1,8 @@
 -- What the writes of a call owe the model, in terms of places.
-use Rattle.std.proofs.Common.{◌≡◌, ℕ, ◌+◌, ◌*◌, ◌<◌, ◌≤◌, List, length, take, Option, sym, refl, ap, ◌∙◌, arith}
+use Rattle.std.proofs.Common.{◌≡◌, ℕ, ◌<◌, List, length, take, Option, arith}
 use Rattle.device.specs.Meaning.{Sectors}
 use Rattle.layout.specs.Sizes.{layout_of}
 use Rattle.layout.specs.declared.sizes.Layout.{Layout}
-use Rattle.entries.specs.Entry.{entry_bytes}
-use Rattle.entries.specs.declared.entry.Entry.{Entry}
 use Rattle.places.specs.Places.{Place, places, all_moved, Fits, Shaped}
 use Rattle.places.specs.SlotWrites.{SlotWrite}
 use Rattle.places.proofs.Frames.{Full, places_full, place_slot, place_first, layouts_sound, length-places}

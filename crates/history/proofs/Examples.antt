@@ -1,11 +1,9 @@
 -- The worked examples, computed.
-use Rattle.std.proofs.Common.{◌≡◌, ℕ, ◌+◌, ◌*◌, ◌/◌, List, [], ◌∷◌, ◌++◌, length, take, drop, sym, refl, ap, ◌∙◌, subst, ap₂, arith}
+use Rattle.std.proofs.Common.{◌≡◌, ◌+◌, ◌*◌, ◌/◌, ◌++◌, length, refl, ◌∙◌, arith}
 use Rattle.std.proofs.lemmas.List.{length-append, length-drop}
 use Rattle.layout.specs.Extents.{extent_of}
-use Rattle.places.specs.Places.{Place}
-use Rattle.plans.specs.Slots.{Job, Slot, empty, held, live, erased, decoded}
-use Rattle.plans.specs.Plans.{filling, emptying, save_writes, sectors_full, opened_new}
-use Rattle.history.specs.Examples.{Streamed, one_put, two_puts, Streaming, WipeCuts, Wiping, SaveCuts, SavingOver}
+use Rattle.plans.specs.Plans.{filling, emptying, save_writes, sectors_full}
+use Rattle.history.specs.Examples.{one_put, two_puts, Streaming, Wiping, SavingOver}
 
 pub streaming : Streaming
 streaming name x y z a b c =

@@ -1,29 +1,27 @@
 -- Calls that change one slot, which is not the open one: erase, rename, undelete and open of a new job.
-use Rattle.std.proofs.Common.{◌≡◌, ℕ, zero, suc, ◌+◌, ◌-◌, ◌*◌, ◌/◌, ◌<◌, ◌≤◌, Bool, true, false, cond, not, ◌&&◌, eqb, leb, ◌≢◌, ◌⊎◌, List, [], ◌∷◌, ◌++◌, map, length, get_or, take, drop, set, replicate, Some, None, Option, sym, refl, ap, ◌∙◌, subst, ap₂, inl, inr, le_refl, arith}
-use Rattle.std.proofs.lemmas.List.{take_all, get_or-set_same, set-set, set-get_or, length-append, length-set, length-replicate}
-use Rattle.std.proofs.lemmas.Bool.{and_parts, and_from, eq-eqb, le-leb, or_cases, or_right, or_left, cases_lt}
-use Rattle.device.specs.Meaning.{Sectors, Bytes}
-use Rattle.layout.specs.Extents.{extent_of}
+use Rattle.std.proofs.Common.{◌≡◌, ℕ, zero, suc, ◌-◌, ◌<◌, ◌≤◌, true, false, not, ◌&&◌, eqb, leb, ◌≢◌, List, [], ◌∷◌, ◌++◌, length, get_or, take, set, replicate, None, Option, sym, refl, ap, ◌∙◌, subst, ap₂, inl, inr, le_refl, arith}
+use Rattle.std.proofs.lemmas.List.{take_all, get_or-set_same, set-set, set-get_or, length-append, length-replicate}
+use Rattle.std.proofs.lemmas.Bool.{and_parts, and_from, le-leb, or_cases, or_right, or_left}
+use Rattle.device.specs.Meaning.{Sectors}
 use Rattle.layout.specs.Names.{lawful_name, name_char, name_chars, some_shown, padded}
 use Rattle.layout.specs.declared.sizes.Layout.{Layout}
-use Rattle.entries.specs.Entry.{entry_in, entry_bytes, new_entry, hold_entry, renamed, first_set, resized}
+use Rattle.entries.specs.Entry.{renamed, first_set}
 use Rattle.entries.specs.State.{lawful_fields}
 use Rattle.entries.specs.declared.entry.Entry.{Entry}
-use Rattle.places.specs.Places.{Place, no_place, acted, all_moved, Fits}
-use Rattle.places.specs.SlotWrites.{SlotWrite, enter}
-use Rattle.places.proofs.Frames.{Full}
-use Rattle.plans.specs.Slots.{Job, Slot, empty, held, live, erased, damaged, bytes_in, job_in, slot_by, decoded, slots_in, usable, named, is_live, is_erased, job_of, lowest}
-use Rattle.plans.specs.Memory.{OpenJob, Memory}
-use Rattle.plans.specs.Calls.{Call, save, open', rename, erase, wipe, undelete}
-use Rattle.plans.specs.Plans.{place_in, entry_of, entering, saved_entry, restored, restored_slot, new_job, opened_new, job_saved}
+use Rattle.places.specs.Places.{Place, all_moved, Fits}
+use Rattle.places.specs.SlotWrites.{SlotWrite}
+use Rattle.plans.specs.Slots.{Job, Slot, empty, held, live, erased, damaged, job_in, slot_by, decoded, slots_in, named, is_live, is_erased, job_of, lowest}
+use Rattle.plans.specs.Memory.{OpenJob}
+use Rattle.plans.specs.Calls.{Call, rename, erase, undelete}
+use Rattle.plans.specs.Plans.{place_in, entry_of, entering, restored, restored_slot}
 use Rattle.plans.proofs.Lowest.{no}
 use Rattle.plans.proofs.Blocks.{ran}
-use Rattle.plans.proofs.Entries.{FitsEntry, renamed_fits, first_fits, new_fits, entered_fits, entered, lawful_first, lawful_short, lawful_bytes, live_by, erased_by, IsLive, is_live_by, is_erased_by}
-use Rattle.history.specs.Model.{Waiting, Model, changed, with_name, with_slots, with_waiting, once, opened, counted, done, slot_of, waiting_at}
-use Rattle.history.specs.Agreement.{seen, Unique, OpenAgrees, Opens, Agrees}
+use Rattle.plans.proofs.Entries.{FitsEntry, renamed_fits, first_fits, entered_fits, entered, lawful_short, lawful_bytes, live_by, erased_by, IsLive, is_live_by, is_erased_by}
+use Rattle.history.specs.Model.{Model, changed, with_name, with_slots, once, counted, done}
+use Rattle.history.specs.Agreement.{seen, Unique, Agrees}
 use Rattle.history.specs.Preserved.{entries_written}
-use Rattle.history.proofs.Writing.{ToSlot, to_slot_take, moved_one, parts_one, take_none}
-use Rattle.history.proofs.Agreeing.{differ, Hit, hit, usable_seen, Named, same_set, unique_set, Apart, opens_apart, agrees_set, not_live_apart, usable_not_live, OtherName, other_apart, slot_shown, same_length, not_named}
+use Rattle.history.proofs.Writing.{ToSlot, to_slot_take, moved_one, parts_one}
+use Rattle.history.proofs.Agreeing.{Named, unique_set, Apart, agrees_set, not_live_apart, slot_shown, not_named}
 use Rattle.history.proofs.Carried.{LaidOut, Carried, entry_fits}
 
 -- NAMES PADDED

@@ -1,8 +1,8 @@
 -- Every call keeps the model: its plan followed test by test, down to what its writes owe.
-use Rattle.std.proofs.Common.{◌≡◌, ℕ, zero, suc, ◌+◌, ◌-◌, ◌*◌, ◌/◌, ◌<◌, ◌≤◌, Bool, true, false, cond, ◌&&◌, eqb, ltb, leb, ◌≢◌, ◌⊎◌, List, [], ◌∷◌, ◌++◌, length, get_or, take, drop, set, Some, None, Ok, Err, Option, Result, sym, refl, ap, ◌∙◌, subst, ap₂, inl, inr, arith}
+use Rattle.std.proofs.Common.{◌≡◌, ℕ, zero, suc, ◌+◌, ◌<◌, Bool, true, false, cond, ◌&&◌, eqb, ltb, leb, List, [], ◌∷◌, ◌++◌, length, get_or, take, set, Some, None, Ok, Option, Result, sym, refl, ap, ◌∙◌, subst, inl, inr, arith}
 use Rattle.std.proofs.lemmas.Slice.Eq.{bytes_eq-Decides}
 use Rattle.std.proofs.lemmas.List.{set-get_or}
-use Rattle.std.proofs.lemmas.Bool.{and_parts, eqb-true, eqb-false, leb-true, ltb-true, false≢true, cases_Bool}
+use Rattle.std.proofs.lemmas.Bool.{and_parts, eqb-true, eqb-false, leb-true, ltb-true, false≢true}
 use Rattle.std.specs.Str.{bytes_eq}
 use Rattle.device.specs.Meaning.{Sectors, Bytes}
 use Rattle.layout.specs.Label.{bad_field, read_label, label_in, answered}
@@ -12,25 +12,24 @@ use Rattle.layout.specs.Words.{double_at}
 use Rattle.layout.specs.declared.label.Label.{Label}
 use Rattle.layout.specs.declared.sizes.Layout.{Layout}
 use Rattle.refusals.specs.declared.Refusal.{Refusal}
-use Rattle.refusals.specs.declared.Refusal.TheVariants.{Name, FileType, NotOpen, TooLong, Field, Open, NoJob, NotSequential, NotErased, NameTaken, NoSlot, OutOfBounds}
-use Rattle.places.specs.Places.{Place, places, all_moved, Fits, Shaped}
+use Rattle.refusals.specs.declared.Refusal.TheVariants.{Name, FileType, NotOpen, TooLong, Open, NoJob, NotSequential, NotErased, NameTaken, NoSlot, OutOfBounds}
+use Rattle.places.specs.Places.{Place, places, all_moved}
 use Rattle.places.specs.SlotWrites.{SlotWrite, all_written}
-use Rattle.plans.specs.Slots.{Job, Slot, empty, held, live, erased, damaged, decoded, slots_in, usable, named, is_live, is_erased, job_of, lowest}
+use Rattle.plans.specs.Slots.{Job, Slot, empty, decoded, slots_in, usable, named, is_live, is_erased, job_of, lowest}
 use Rattle.plans.specs.Rows.{known_kind}
-use Rattle.plans.specs.Memory.{OpenJob, Memory, mounted, unmounted, with_job, card_layout, job_length}
-use Rattle.plans.specs.Calls.{Call, mount, save, open', put, commit, finish, rename, erase, wipe, sweep, undelete, load, read, list, same, check, Answer, done as ok}
-use Rattle.plans.specs.Plans.{Plan, tell, decline, refuse, go, Reads, between, sweep_writes, plan, unless, found, vacant, all_shut, named_shut, held_open, slot_named, place_in, card_places, mount_plan, mount_by, save_plan, open_plan, open_at, put_plan, put_by, commit_plan, finish_by, rename_plan, erase_plan, wipe_plan, undelete_plan, reading, load_plan, read_plan, same_plan, restored, restored_slot, job_saved, put_writes, sectors_full, filling, chunk, after_put, after_commit, commit_writes, continued, opened_new, new_job, entering, saved_entry, entry_of}
-use Rattle.plans.proofs.Lowest.{none_some, some_same, no}
+use Rattle.plans.specs.Memory.{OpenJob, Memory, mounted, unmounted, with_job, job_length}
+use Rattle.plans.specs.Calls.{Call, mount, save, open', put, commit, finish, rename, erase, wipe, sweep, undelete, load, read, list, same, check, done as ok}
+use Rattle.plans.specs.Plans.{Plan, decline, refuse, go, between, sweep_writes, plan, unless, found, vacant, all_shut, named_shut, held_open, slot_named, place_in, card_places, mount_plan, mount_by, save_plan, open_plan, open_at, put_plan, put_by, commit_plan, finish_by, rename_plan, erase_plan, wipe_plan, undelete_plan, load_plan, read_plan, same_plan, restored, restored_slot, job_saved, put_writes, sectors_full, filling, chunk, after_put, after_commit, commit_writes, continued, opened_new, new_job, entering, saved_entry, entry_of}
 use Rattle.plans.proofs.Words.{known_type_decides, name_byte_decides}
 use Rattle.plans.proofs.Entries.{lawful_short}
-use Rattle.history.specs.Model.{Waiting, Model, changed, once, saved, wiped, swept, counted, done, slot_of, finished, waiting_at, with_waiting, with_slots, opened, none_yet, open_slot}
-use Rattle.history.specs.Agreement.{seen, Unique, Opens, Agrees, Knows, Holds}
+use Rattle.history.specs.Model.{Waiting, Model, changed, saved, wiped, counted, done, slot_of, waiting_at, with_waiting, with_slots, opened, none_yet, open_slot}
+use Rattle.history.specs.Agreement.{Agrees, Knows, Holds}
 use Rattle.history.specs.Preserved.{entries_written, Typed, Preserved, Preserves, CallsPreserve}
 use Rattle.history.proofs.Writing.{take_none, fits_take, holds_after}
 use Rattle.history.proofs.Agreeing.{hit, usable_seen, Named, named_hit, named_seen, lowest_same, Apart, OtherName, other_apart}
 use Rattle.history.proofs.Carried.{LaidOut, laid_out, Carried}
 use Rattle.history.proofs.OneSlot.{erase_carried, rename_carried, undelete_carried, padded_lawful, length-padded}
-use Rattle.history.proofs.Saving.{Saves, save_carried, open_carried}
+use Rattle.history.proofs.Saving.{save_carried, open_carried}
 use Rattle.history.proofs.Streams.{put_carried, commit_carried, commit_nothing}
 use Rattle.history.proofs.Handles.{continued_agrees, finished_agrees, finished_other, finished_none}
 use Rattle.history.proofs.Wiping.{wipe_carried}

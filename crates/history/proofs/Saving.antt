@@ -1,30 +1,30 @@
 -- Calls that make a job in a usable slot: save, and open of a name that is not live.
-use Rattle.std.proofs.Common.{◌≡◌, ℕ, zero, suc, ◌+◌, ◌-◌, ◌*◌, ◌/◌, ◌<◌, ◌≤◌, Bool, true, false, cond, ◌&&◌, eqb, ◌≢◌, ◌⊎◌, List, [], ◌∷◌, ◌++◌, length, get_or, take, drop, set, Some, None, Option, sym, refl, ap, ◌∙◌, subst, ap₂, inl, inr, append_assoc, arith}
-use Rattle.std.proofs.lemmas.List.{get_or-set_same, take_at, append-nil, set-get_or}
+use Rattle.std.proofs.Common.{◌≡◌, ℕ, zero, suc, ◌+◌, ◌-◌, ◌*◌, ◌<◌, ◌≤◌, true, eqb, ◌⊎◌, List, [], ◌∷◌, ◌++◌, length, get_or, take, drop, set, Some, None, Option, sym, refl, ap, ◌∙◌, subst, ap₂, inl, inr, append_assoc, arith}
+use Rattle.std.proofs.lemmas.List.{get_or-set_same, take_at, append-nil}
 use Rattle.std.proofs.lemmas.Bool.{and_from, eq-eqb}
 use Rattle.device.specs.Meaning.{Sectors, Bytes, zeros}
 use Rattle.device.proofs.ByteLists.{no_bytes}
 use Rattle.layout.specs.Extents.{extent_of}
 use Rattle.layout.specs.Names.{lawful_name, padded}
 use Rattle.layout.specs.declared.sizes.Layout.{Layout}
-use Rattle.entries.specs.Entry.{entry_in, entry_bytes, new_entry, hold_entry}
+use Rattle.entries.specs.Entry.{entry_bytes, new_entry}
 use Rattle.entries.specs.State.{lawful_fields}
 use Rattle.entries.specs.declared.entry.Entry.{Entry}
-use Rattle.places.specs.Places.{Place, no_place, acted, all_moved, Fits, counted_up}
+use Rattle.places.specs.Places.{Place, no_place, acted, all_moved, Fits}
 use Rattle.places.specs.SlotWrites.{SlotWrite, enter}
 use Rattle.places.proofs.Frames.{Full}
-use Rattle.plans.specs.Slots.{Job, Slot, empty, held, live, erased, damaged, bytes_in, job_in, slot_by, decoded, slots_in, usable, named, is_live, job_of, lowest}
-use Rattle.plans.specs.Memory.{OpenJob, Memory}
-use Rattle.plans.specs.Calls.{Call, save, open'}
+use Rattle.plans.specs.Slots.{Job, Slot, empty, held, live, erased, damaged, bytes_in, job_in, slot_by, decoded, slots_in, usable, named, is_live, lowest}
+use Rattle.plans.specs.Memory.{OpenJob}
+use Rattle.plans.specs.Calls.{save, open'}
 use Rattle.plans.specs.Plans.{place_in, entry_of, entering, filling, chunk, no_entry, clearing, saved_entry, save_writes, new_job, opened_new, job_saved}
 use Rattle.plans.proofs.Lowest.{no}
 use Rattle.plans.proofs.Blocks.{ran, ran_append, ran_filling, laid, with_sectors, take-filling, length-filling, bytes_in_laid, chunks_hold, length-chunk, chunk_bytes}
-use Rattle.plans.proofs.Entries.{FitsEntry, new_fits, hold_fits, entered_fits, entered, lawful_short, lawful_bytes, live_by, emptied_by, HasNoJob, empty_none, quiet}
-use Rattle.history.specs.Model.{Waiting, Model, changed, saved, with_slots, with_waiting, opened, counted, done, slot_of, waiting_at, none_yet, open_slot}
-use Rattle.history.specs.Agreement.{seen, Unique, OpenAgrees, Opens, Agrees}
+use Rattle.plans.proofs.Entries.{FitsEntry, new_fits, hold_fits, entered_fits, entered, lawful_short, lawful_bytes, live_by, emptied_by, empty_none, quiet}
+use Rattle.history.specs.Model.{Waiting, Model, changed, saved, with_slots, opened, counted, slot_of, none_yet, open_slot}
+use Rattle.history.specs.Agreement.{seen, Unique, OpenAgrees, Agrees}
 use Rattle.history.specs.Preserved.{entries_written}
-use Rattle.history.proofs.Writing.{ToSlot, to_slot_append, to_slot_filling, moved_one, parts_append, parts_one, entries_append, entries_filling, fits_append, fits_filling}
-use Rattle.history.proofs.Agreeing.{Hit, unique_set, Apart, agrees_set, same_set, not_live_apart, usable_not_live, slot_shown, not_named}
+use Rattle.history.proofs.Writing.{ToSlot, to_slot_append, to_slot_filling, parts_append, parts_one, entries_append, entries_filling, fits_append, fits_filling}
+use Rattle.history.proofs.Agreeing.{Hit, unique_set, agrees_set, not_live_apart, usable_not_live, not_named}
 use Rattle.history.proofs.Carried.{LaidOut, Carried, full_wide}
 use Rattle.history.proofs.OneSlot.{one_slot, length-padded, padded_lawful, unique_named}
 

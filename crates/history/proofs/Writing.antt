@@ -1,20 +1,17 @@
 -- Lists of writes: their first parts, those to one slot, and what they leave of a card.
-use Rattle.std.proofs.Common.{◌≡◌, ℕ, zero, suc, ◌+◌, ◌-◌, ◌*◌, ◌<◌, ◌≤◌, ◌⊎◌, List, [], ◌∷◌, ◌++◌, length, get_or, take, drop, set, Ok, sym, refl, ap, ◌∙◌, subst, ap₂, inl, inr, arith}
-use Rattle.std.proofs.lemmas.List.{set-get_or, set-set, get_or-set_same, length-set, take-append-le, take_all, length-append}
+use Rattle.std.proofs.Common.{◌≡◌, ℕ, zero, suc, ◌+◌, ◌-◌, ◌<◌, ◌≤◌, List, [], ◌∷◌, ◌++◌, length, get_or, take, set, sym, refl, ap, ◌∙◌, subst, ap₂, inl, inr, arith}
+use Rattle.std.proofs.lemmas.List.{set-get_or, set-set, get_or-set_same, length-set, take-append-le, take_all}
 use Rattle.std.proofs.lemmas.Bool.{cases_lt}
 use Rattle.device.specs.Meaning.{Sectors, Bytes}
 use Rattle.layout.specs.Sizes.{layout_of}
 use Rattle.layout.specs.Label.{read_label}
 use Rattle.layout.specs.declared.sizes.Layout.{Layout}
-use Rattle.layout.specs.declared.label.Label.{Label}
-use Rattle.runs.proofs.Sequences.{take-append_add}
-use Rattle.places.specs.Places.{Place, places, no_place, acted, moved, all_moved, Fits, FitsAct, counted_up}
+use Rattle.places.specs.Places.{Place, places, no_place, acted, moved, all_moved, Fits, counted_up}
 use Rattle.places.specs.SlotWrites.{SlotAct, SlotWrite, enter, fill, all_written}
 use Rattle.places.proofs.Frames.{layouts_sound, writes_refine_lem, length-all_written, label_kept}
 use Rattle.plans.specs.Memory.{Memory}
-use Rattle.plans.specs.Calls.{Call}
 use Rattle.plans.specs.Plans.{to_slot, filling, place_in}
-use Rattle.plans.proofs.Blocks.{ran, take_app, length-filling}
+use Rattle.plans.proofs.Blocks.{ran, take_app}
 use Rattle.history.specs.Model.{Model}
 use Rattle.history.specs.Agreement.{Agrees, Knows, Holds}
 use Rattle.history.specs.Preserved.{entries_written, entries_act}

@@ -1,5 +1,5 @@
 -- An accepted wipe leaves zeros in the job's sectors.
-use Rattle.std.proofs.Common.{◌≡◌, ℕ, zero, suc, ◌+◌, ◌<◌, ◌≤◌, true, List, [], ◌∷◌, ◌++◌, length, get_or, take, drop, set, Some, sym, refl, ap, ◌∙◌, subst, ap₂, zero-add, arith}
+use Rattle.std.proofs.Common.{◌≡◌, ℕ, zero, suc, ◌+◌, ◌<◌, ◌≤◌, true, List, [], ◌∷◌, ◌++◌, length, get_or, drop, set, Some, sym, refl, ap, ◌∙◌, subst, arith}
 use Rattle.std.proofs.lemmas.List.{get_or_append_left, get_or-set_same}
 use Rattle.device.specs.Meaning.{Sectors, zeros}
 use Rattle.layout.specs.Extents.{extent_of}
@@ -9,7 +9,7 @@ use Rattle.layout.specs.declared.sizes.Layout.{Layout}
 use Rattle.refusals.specs.declared.Refusal.{Refusal}
 use Rattle.refusals.specs.declared.Refusal.TheVariants.{Name, NoJob}
 use Rattle.entries.specs.Entry.{entry_bytes, hold_entry}
-use Rattle.places.specs.Places.{Place, places, no_place, acted, all_moved, counted_up}
+use Rattle.places.specs.Places.{Place, places, no_place, acted, counted_up}
 use Rattle.places.specs.SlotWrites.{SlotWrite, enter, all_written}
 use Rattle.places.proofs.Frames.{layouts_sound, writes_refine_lem, Full}
 use Rattle.places.proofs.Lists.{length-counted, get_or-counted}
@@ -24,7 +24,7 @@ use Rattle.history.specs.Agreement.{Knows, Holds}
 use Rattle.history.specs.Preserved.{WipeZeroes}
 use Rattle.history.proofs.Agreeing.{differ, Named, named_hit}
 use Rattle.history.proofs.Carried.{Carried, laid_out}
-use Rattle.history.proofs.Writing.{ToSlot, to_slot_append, moved_one}
+use Rattle.history.proofs.Writing.{ToSlot, moved_one}
 use Rattle.history.proofs.Wiping.{to_slot_emptying, live_sectors, wipe_carried}
 use Rattle.history.proofs.Preserving.{unless_keeps, named_shut_keeps, found_keeps, apart_from}
 

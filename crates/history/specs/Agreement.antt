@@ -6,7 +6,7 @@ use Rattle.layout.specs.Sizes.{layout_of}
 use Rattle.layout.specs.declared.label.Label.{Label}
 use Rattle.places.specs.Places.{Place, places, Shaped}
 use Rattle.plans.specs.Slots.{Job, Slot, empty, held, live, erased, damaged, bytes_in, slots_in}
-use Rattle.plans.specs.Memory.{OpenJob, Memory, mounted, unmounted, job_length}
+use Rattle.plans.specs.Memory.{OpenJob, Memory, unmounted, job_length}
 use Rattle.plans.specs.Plans.{place_in}
 use Rattle.history.specs.Model.{Waiting, Model, with_name}
 

@@ -1,14 +1,12 @@
 -- Worked examples, computed on the definitions.
-use Rattle.std.specs.Prelude.{◌≡◌, ℕ, List, [], ◌∷◌, ◌++◌, length, take, Some, None, Option}
+use Rattle.std.specs.Prelude.{◌≡◌, ℕ, List, [], ◌∷◌, ◌++◌, length, take}
 use Rattle.layout.specs.Extents.{extent_of}
-use Rattle.layout.specs.Names.{padded}
-use Rattle.places.specs.SlotWrites.{SlotWrite}
 use Rattle.places.specs.Places.{Place}
 use Rattle.plans.specs.Slots.{Job, Slot, empty, held, live, erased, decoded}
 use Rattle.plans.specs.Memory.{OpenJob, job_length}
-use Rattle.plans.specs.Calls.{mount, save, open', put, commit, undelete}
-use Rattle.plans.specs.Plans.{wipe_writes, save_writes, opened_new, after_put, after_commit, sectors_full, job_saved}
-use Rattle.history.specs.Model.{Model, new_model, wiped, saved}
+use Rattle.plans.specs.Calls.{mount, open', put, commit}
+use Rattle.plans.specs.Plans.{wipe_writes, save_writes, opened_new, after_put, sectors_full, job_saved}
+use Rattle.history.specs.Model.{new_model, wiped, saved}
 use Rattle.history.specs.Events.{Event, called, pulled, accepted, after}
 use Rattle.history.specs.Preserved.{entries_written}
 

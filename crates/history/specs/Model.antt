@@ -1,6 +1,6 @@
 -- The model of a card: what each slot has and what waits to be committed, told by calls, their arguments and their
 -- outcomes alone.
-use Rattle.std.specs.Prelude.{ℕ, zero, suc, ◌-◌, Bool, true, false, cond, List, [], ◌∷◌, ◌++◌, length, replicate, Some, None, Option, ◌==◌, slice_index_or, slice_set}
+use Rattle.std.specs.Prelude.{ℕ, zero, suc, Bool, true, false, cond, List, [], ◌∷◌, ◌++◌, length, replicate, Some, None, Option, ◌==◌, slice_index_or, slice_set}
 use Rattle.layout.specs.Extents.{extent_of}
 use Rattle.layout.specs.Names.{padded}
 use Rattle.plans.specs.Slots.{Job, Slot, empty, held, live, erased, damaged, usable, named, job_of, lowest}

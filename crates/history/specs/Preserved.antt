@@ -1,5 +1,5 @@
 -- That every call keeps the model, whatever first part of its writes persists.
-use Rattle.std.specs.Prelude.{◌≡◌, ℕ, suc, ◌<◌, Bool, true, false, List, [], ◌∷◌, length, take, Some, slice_index_or}
+use Rattle.std.specs.Prelude.{◌≡◌, ℕ, suc, ◌<◌, true, List, [], ◌∷◌, length, take, Some, slice_index_or}
 use Rattle.device.specs.Meaning.{Sectors, Bytes, zeros}
 use Rattle.layout.specs.Extents.{extent_of}
 use Rattle.layout.specs.Sizes.{layout_of}

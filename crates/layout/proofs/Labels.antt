@@ -1,5 +1,5 @@
 -- The master sector put together, and read again.
-use Rattle.std.proofs.Common.{◌≡◌, ℕ, ◌+◌, ◌-◌, ◌*◌, ◌/◌, ◌%◌, ◌<◌, ◌≤◌, Bool, true, false, cond, ◌&&◌, ltb, List, [], ◌∷◌, ◌++◌, length, take, drop, Some, None, Ok, Err, Option, sym, refl, ap, ◌∙◌, ap₂, append-nil, arith, lit≤, length-append, lt-ltb, eq-eqb, le-leb}
+use Rattle.std.proofs.Common.{◌≡◌, ℕ, ◌+◌, ◌-◌, ◌*◌, ◌/◌, ◌%◌, ◌<◌, ◌≤◌, Bool, true, false, cond, ◌&&◌, ltb, List, [], ◌++◌, length, take, drop, Some, None, Ok, Option, sym, refl, ap, ◌∙◌, ap₂, arith, lit≤, length-append, lt-ltb, eq-eqb, le-leb}
 use Rattle.std.proofs.lemmas.List.{drop_all, drop-drop, drop-append-le, append_assoc, take_at, drop_at}
 use Rattle.std.specs.Str.{bytes_eq}
 use Rattle.layout.specs.Bytes.{part}

@@ -1,5 +1,5 @@
 -- Disk ids: a letter, a digit, a letter and a digit.
-use Rattle.std.specs.Prelude.{ℕ, Bool, true, false, cond, ◌&&◌, List, [], ◌∷◌, Some, None, Option, nat_le}
+use Rattle.std.specs.Prelude.{ℕ, Bool, false, cond, ◌&&◌, List, [], ◌∷◌, Some, None, Option, nat_le}
 use Rattle.layout.specs.declared.disk_ids.DiskId.{DiskId}
 
 abbrev pub letter : ℕ → Bool

@@ -1,5 +1,5 @@
 -- Worked figures, held against the definitions.
-use Rattle.std.specs.Prelude.{◌≡◌, ℕ, Bool, true, false, not, ◌&&◌, List, [], ◌∷◌, is_some, ◌==◌}
+use Rattle.std.specs.Prelude.{◌≡◌, ℕ, Bool, true, not, ◌&&◌, List, [], ◌∷◌, is_some, ◌==◌}
 use Rattle.std.specs.Str.{bytes_eq}
 use Rattle.layout.specs.Words.{double_bytes}
 use Rattle.layout.specs.Sizes.{layout_of, place_of, block_of}

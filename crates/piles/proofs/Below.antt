@@ -1,12 +1,10 @@
 -- A refusal that comes up two layers.
 use Rattle.std.proofs.Common.{◌≡◌, ℕ, ◌+◌, ◌<◌, ◌≤◌, ◌⊎◌, List, length, take, drop, replicate, Ok, Err, Result, sym, refl, ap, ◌∙◌, subst, inl, inr}
 use Rattle.std.proofs.lemmas.List.{length-replicate}
-use Rattle.device.specs.Faults.{Faults, fault, raised_fault, raised_faults}
+use Rattle.device.specs.Faults.{Faults, raised_fault, raised_faults}
 use Rattle.device.specs.Meaning.{Meaning, Sectors, zeros}
 use Rattle.device.specs.Transfers.{Writes, WriteAnswer}
 use Rattle.device.specs.declared.faults.Fault.{Fault}
-use Rattle.device.specs.declared.faults.Cause.TheVariants.{Device}
-use Rattle.device.specs.declared.faults.Act.TheVariants.{Write}
 use Rattle.stores.specs.Sparse.{sparse_faults}
 use Rattle.layers.specs.Layer.{passed_on}
 use Rattle.layers.specs.Window.{window_count}

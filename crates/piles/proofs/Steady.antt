@@ -3,7 +3,7 @@ use Rattle.std.proofs.Common.{◌≡◌, ℕ, ◌+◌, ◌*◌, ◌/◌, ◌<◌
 use Rattle.std.proofs.lemmas.Bool.{cases_eq, cases_lt}
 use Rattle.std.proofs.lemmas.List.{length-set, get_or-set_same}
 use Rattle.device.specs.Faults.{Faults, fault}
-use Rattle.device.specs.Meaning.{Meaning, Sectors, MayRefuse, steady, sector, with_sector}
+use Rattle.device.specs.Meaning.{Meaning, Sectors, MayRefuse, steady, sector}
 use Rattle.device.specs.Transfers.{Reads, Writes, WriteAnswer}
 use Rattle.device.specs.declared.faults.Fault.{Fault}
 use Rattle.device.specs.declared.faults.Geometry.{Geometry}

@@ -4,7 +4,7 @@ use Rattle.device.specs.Meaning.{Sectors, Bytes}
 use Rattle.layout.specs.Bytes.{part}
 use Rattle.layout.specs.Sizes.{layout_of, place_of, block_of}
 use Rattle.layout.specs.declared.sizes.Layout.{Layout}
-use Rattle.places.specs.SlotWrites.{SlotAct, SlotWrite, enter, fill, written, all_written}
+use Rattle.places.specs.SlotWrites.{SlotAct, SlotWrite, enter, fill, all_written}
 
 -- a layout whose slots have their entries before the data area and their blocks on the card; one without slots asks
 -- for no room

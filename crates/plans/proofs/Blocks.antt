@@ -1,13 +1,13 @@
 -- Sectors of a block written upwards, and the bytes that they then hold.
-use Rattle.std.proofs.Common.{◌≡◌, ℕ, zero, suc, ◌+◌, ◌-◌, ◌*◌, ◌/◌, ◌<◌, ◌≤◌, min, ◌⊎◌, List, [], ◌∷◌, ◌++◌, length, get_or, take, drop, set, sym, refl, ap, ◌∙◌, ap₂, inl, inr, append_assoc, add-zero, zero-add, add-one, arith}
+use Rattle.std.proofs.Common.{◌≡◌, ℕ, zero, suc, ◌+◌, ◌-◌, ◌*◌, ◌<◌, ◌≤◌, List, [], ◌∷◌, ◌++◌, length, get_or, take, drop, set, sym, refl, ap, ◌∙◌, ap₂, inl, inr, append_assoc, add-zero, arith}
 use native.Mathlib.Nat.{sub-zero, zero-sub, suc-sub-suc}
-use Rattle.std.proofs.lemmas.List.{length-set, length-append, length-take-le, length-drop, take-append-drop, take_all, take_at, drop_all, drop-drop, drop-set-lt, drop-append-le, take_more_set, take-append-le, append-nil}
+use Rattle.std.proofs.lemmas.List.{length-set, length-append, length-take-le, take-append-drop, take_all, drop_all, drop-drop, drop-set-lt, take_more_set, take-append-le}
 use Rattle.std.proofs.lemmas.Bool.{cases_lt}
 use Rattle.device.specs.Meaning.{Sectors, Bytes, zeros}
 use Rattle.device.proofs.ByteLists.{take-bytes, drop-bytes, append-bytes}
 use Rattle.device.proofs.Zeros.{length-zeros, take-zeros, drop-zeros}
-use Rattle.places.specs.Places.{Place, acted, counted_up, FitsAct}
-use Rattle.places.specs.SlotWrites.{SlotAct, SlotWrite, enter, fill}
+use Rattle.places.specs.Places.{Place, acted, counted_up}
+use Rattle.places.specs.SlotWrites.{SlotWrite, fill}
 use Rattle.places.proofs.Lists.{length-counted}
 use Rattle.plans.specs.Slots.{bytes_in}
 use Rattle.plans.specs.Plans.{to_slot, filling, chunk}

@@ -1,22 +1,20 @@
 -- Entries that calls write: they fit their 32 bytes, and what they make of a slot.
-use Rattle.std.proofs.Common.{◌≡◌, ℕ, zero, suc, ◌+◌, ◌-◌, ◌*◌, ◌/◌, ◌%◌, ◌<◌, ◌≤◌, min, Bool, true, false, cond, ◌&&◌, eqb, leb, ◌≢◌, ◌⊎◌, List, [], ◌∷◌, ◌++◌, length, get_or, take, drop, set, sym, refl, ap, ◌∙◌, ap₂, inl, inr, arith}
+use Rattle.std.proofs.Common.{◌≡◌, ℕ, zero, suc, ◌+◌, ◌*◌, ◌/◌, ◌%◌, ◌<◌, ◌≤◌, min, Bool, true, false, cond, ◌&&◌, eqb, leb, List, [], ◌∷◌, ◌++◌, length, get_or, drop, set, refl, ap, ◌∙◌, inl, inr, arith}
 use Rattle.std.proofs.lemmas.List.{length-append, length-set, length-take-le, length-drop}
-use Rattle.std.proofs.lemmas.Bool.{eqb-true, eqb-false, eq-eqb, ne_eqb, leb-true, and_parts, and_from, or_cases, false≢true, cases_Bool}
+use Rattle.std.proofs.lemmas.Bool.{eqb-true, ne_eqb, leb-true, and_parts, or_cases}
 use Rattle.device.specs.Meaning.{Sectors, Bytes, zeros}
 use Rattle.device.proofs.ByteLists.{no_bytes, take-bytes, drop-bytes, append-bytes}
 use Rattle.device.proofs.Zeros.{length-zeros}
-use Rattle.layout.specs.Extents.{extent_of}
-use Rattle.layout.specs.Names.{lawful_name, name_char, name_chars, some_shown, padded}
+use Rattle.layout.specs.Names.{lawful_name, name_char, name_chars, some_shown}
 use Rattle.layout.specs.Words.{word_bytes, double_bytes}
 use Rattle.entries.specs.Entry.{entry_in, entry_rest, entry_bytes, new_entry, hold_entry, renamed, first_set, resized}
 use Rattle.entries.specs.State.{lawful_fields, state_by}
 use Rattle.entries.specs.declared.entry.Entry.{Entry}
-use Rattle.entries.specs.declared.state.EntryState.{EntryState}
 use Rattle.entries.specs.declared.state.EntryState.TheVariants.{Empty, Held, Erased, Live, Damaged}
 use Rattle.entries.proofs.Entries.{entry_back}
 use Rattle.places.specs.Places.{Place, acted, FitsAct}
 use Rattle.places.specs.SlotWrites.{enter}
-use Rattle.plans.specs.Slots.{Job, Slot, empty, held, live, erased, damaged, job_in, as_slot, slot_by, decoded, bytes_in}
+use Rattle.plans.specs.Slots.{Job, Slot, empty, held, live, erased, damaged, job_in, as_slot, slot_by, decoded}
 use Rattle.plans.proofs.Lowest.{no}
 
 -- fields of the widths that an entry stores

@@ -1,15 +1,15 @@
 -- The cases in which calls are refused, in words of the card, and that plans refuse in exactly these.
-use Rattle.std.specs.Prelude.{◌≡◌, ℕ, ◌+◌, ◌<◌, ◌≤◌, false, ◌≢◌, ◌⊎◌, ◌↔◌, List, [], ◌∷◌, length, get_or, Some, None, Option, slice_index, slice_index_or}
+use Rattle.std.specs.Prelude.{◌≡◌, ℕ, ◌+◌, ◌<◌, ◌≤◌, false, ◌≢◌, ◌⊎◌, ◌↔◌, List, [], ◌∷◌, length, get_or, Some, slice_index, slice_index_or}
 use Rattle.device.specs.Meaning.{Sectors}
-use Rattle.layout.specs.Label.{Field, field, checks_of}
+use Rattle.layout.specs.Label.{field, checks_of}
 use Rattle.layout.specs.Names.{padded}
 use Rattle.layout.specs.Words.{double_at}
 use Rattle.refusals.specs.Refusals.{refusal_number}
 use Rattle.places.specs.Places.{Place}
-use Rattle.plans.specs.Slots.{Job, Slot, empty, live, erased, slots_in}
+use Rattle.plans.specs.Slots.{Job, empty, live, erased, slots_in}
 use Rattle.plans.specs.Memory.{OpenJob, Memory, job_length}
 use Rattle.plans.specs.Calls.{Call, mount, save, open', put, commit, finish, rename, erase, wipe, sweep, undelete, load, read, list, same, check}
-use Rattle.plans.specs.Plans.{Plan, tell, decline, refuse, go, plan, card_places, place_in, restored_slot, restored}
+use Rattle.plans.specs.Plans.{Plan, tell, decline, refuse, go, plan, card_places, place_in, restored_slot}
 
 abbrev pub Not : Type 0 → Type 0
 Not P = P → ⊥

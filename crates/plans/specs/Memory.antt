@@ -1,5 +1,5 @@
 -- What the program keeps of a card in memory.
-use Rattle.std.specs.Prelude.{ℕ, ◌+◌, ◌*◌, List, length, Some, None, Option}
+use Rattle.std.specs.Prelude.{ℕ, ◌+◌, ◌*◌, List, length, None, Option}
 use Rattle.layout.specs.Sizes.{layout_of}
 use Rattle.layout.specs.declared.sizes.Layout.{Layout}
 

@@ -1,5 +1,5 @@
 -- What a card holds, slot by slot. Rules: docs/FORMAT.md, "Entries and slots".
-use Rattle.std.specs.Prelude.{ℕ, suc, Bool, true, false, cond, List, [], ◌∷◌, ◌++◌, map, get_or, take, set, Some, None, Option}
+use Rattle.std.specs.Prelude.{ℕ, suc, Bool, true, false, cond, List, [], ◌∷◌, ◌++◌, map, take, Some, None, Option}
 use Rattle.std.specs.Str.{bytes_eq}
 use Rattle.device.specs.Meaning.{Sectors}
 use Rattle.entries.specs.Entry.{entry_in}

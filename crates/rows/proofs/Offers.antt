@@ -1,5 +1,5 @@
 -- Rows offered one by one.
-use Rattle.std.proofs.Common.{◌≡◌, ℕ, zero, suc, List, [], ◌∷◌, set, refl, ap, ◌∙◌}
+use Rattle.std.proofs.Common.{◌≡◌, ℕ, suc, List, [], ◌∷◌, set, refl, ap, ◌∙◌}
 use Rattle.rows.specs.Rows.{filled, offered}
 
 no_room : {R : Type 0} (n : ℕ) (xs : List R) → offered n xs [] ≡ []

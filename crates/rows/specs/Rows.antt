@@ -1,5 +1,5 @@
 -- The caller's slice once rows have been offered to a table over it.
-use Rattle.std.specs.Prelude.{◌≡◌, ℕ, suc, ◌+◌, min, List, [], ◌∷◌, length, slice_set}
+use Rattle.std.specs.Prelude.{◌≡◌, ℕ, suc, ◌+◌, min, List, [], ◌∷◌, slice_set}
 
 -- a counter of 64 bits moved on: it stops at 2^64 - 1
 abbrev pub one_more : ℕ → ℕ

@@ -1,13 +1,13 @@
 -- The sectors of a run of bytes, and a read and a write of one of them.
-use Rattle.std.proofs.Common.{◌≡◌, ℕ, zero, suc, ◌+◌, ◌-◌, ◌*◌, ◌/◌, ◌%◌, ◌<◌, ◌≤◌, Bool, true, false, cond, eqb, leb, ◌≢◌, ◌⊎◌, List, [], ◌∷◌, ◌++◌, length, get_or, take, drop, set, Ok, Err, sym, refl, ap, ◌∙◌, inl, inr, add-one, arith, length-drop, rules}
+use Rattle.std.proofs.Common.{◌≡◌, ℕ, zero, suc, ◌+◌, ◌-◌, ◌*◌, ◌<◌, ◌≤◌, ◌≢◌, ◌⊎◌, List, [], length, get_or, take, drop, set, Ok, sym, refl, ap, ◌∙◌, inl, inr, arith, length-drop}
 use borrow.Rule.Slice.PartMut.{put_mid}
 use Rattle.std.specs.List.{between}
 use Rattle.std.proofs.lemmas.Bool.{cases_eq}
-use Rattle.std.proofs.lemmas.List.{length-append, length-set, get_or-set_same, get_or-set_other, drop-drop, length-take-le, ext_get_or, take-take}
-use Rattle.std.proofs.lemmas.Slice.{between_is, take-put_mid_below, drop-put_mid, between-put_mid, overwrites}
-use Rattle.stores.specs.Image.{sectors_in, image_count, image_of, ImageLength}
+use Rattle.std.proofs.lemmas.List.{length-append, length-set, get_or-set_same, get_or-set_other, drop-drop, length-take-le, ext_get_or}
+use Rattle.std.proofs.lemmas.Slice.{between_is, take-put_mid_below, drop-put_mid, between-put_mid}
+use Rattle.stores.specs.Image.{sectors_in, image_count, image_of}
 use Rattle.device.proofs.ByteLists.{no_bytes, take-bytes, drop-bytes}
-use Rattle.device.specs.Meaning.{Meaning, Bytes, with_sector, Lawful}
+use Rattle.device.specs.Meaning.{Bytes, with_sector, Lawful}
 use Rattle.device.specs.Transfers.{Reads, Writes}
 use Rattle.device.specs.declared.faults.Geometry.{Geometry}
 

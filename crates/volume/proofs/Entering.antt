@@ -1,10 +1,10 @@
 -- One write, and the entry of a slot read and written.
-use Rattle.std.proofs.Common.{◌≡◌, ℕ, ◌+◌, ◌-◌, ◌*◌, ◌/◌, ◌%◌, ◌<◌, ◌≤◌, ◌⊎◌, List, [], ◌∷◌, length, get_or, take, drop, set, Ok, Err, Result, sym, refl, ap, ◌∙◌, subst, ap₂, inl, inr, arith, lit<, lit≤}
+use Rattle.std.proofs.Common.{◌≡◌, ℕ, ◌<◌, List, [], ◌∷◌, length, set, Ok, Err, Result, sym, refl, ap, ◌∙◌, subst, inl, inr, arith, lit<}
 use Rattle.std.proofs.lemmas.List.{get_or-set_same}
 use Rattle.device.specs.Faults.{Faults, Within}
-use Rattle.device.specs.Meaning.{Meaning, Sectors}
+use Rattle.device.specs.Meaning.{Meaning}
 use Rattle.device.specs.Transfers as transfers
-use Rattle.device.specs.declared.faults.Act.TheVariants.{Read, Write}
+use Rattle.device.specs.declared.faults.Act.TheVariants.{Write}
 use Rattle.device.specs.declared.faults.Fault.{Fault}
 use Rattle.layout.specs.Bytes.{part}
 use Rattle.layout.specs.Sizes.{place_of}
@@ -12,12 +12,11 @@ use Rattle.layout.specs.declared.sizes.Layout.{Layout}
 use Rattle.runs.specs.Writes.{with_sectors, failed_with}
 use Rattle.entries.specs.Entry.{entry_in, entry_bytes}
 use Rattle.entries.specs.declared.entry.Entry.{Entry}
-use Rattle.places.specs.Places.{places}
 use Rattle.places.specs.SlotWrites.{SlotWrite, spliced, written}
-use Rattle.plans.specs.Plans.{Reads, for_entries, entering, place_in, entry_of}
+use Rattle.plans.specs.Plans.{Reads, for_entries, entering}
 use Rattle.volume.specs.Directory.{directory_sector, ReadRefused, Holds, ReadEntry}
-use Rattle.volume.specs.Performing.{Performed, sector_of, Cut, at_write, Runs}
-use Rattle.volume.proofs.Glue.{read_cut_at, entry_at}
+use Rattle.volume.specs.Performing.{sector_of, at_write, Runs}
+use Rattle.volume.proofs.Glue.{entry_at}
 
 none_below : 0 < 0 → ⊥
 none_below h = omega arith

@@ -1,20 +1,20 @@
 -- The sectors of a block, written upwards.
-use Rattle.std.proofs.Common.{◌≡◌, ℕ, zero, suc, ◌+◌, ◌-◌, ◌*◌, ◌/◌, ◌<◌, ◌≤◌, min, ◌⊎◌, List, [], ◌∷◌, ◌++◌, length, get_or, take, drop, set, Ok, Err, Result, sym, refl, ap, ◌∙◌, subst, ap₂, inl, inr, append_assoc, append-nil, zero-add, add-one, arith}
+use Rattle.std.proofs.Common.{◌≡◌, ℕ, zero, suc, ◌+◌, ◌-◌, ◌*◌, ◌/◌, ◌<◌, ◌≤◌, min, List, [], ◌∷◌, ◌++◌, length, get_or, take, drop, set, Ok, Err, Result, sym, refl, ap, ◌∙◌, subst, ap₂, inl, inr, append_assoc, append-nil, zero-add, arith}
 use Rattle.std.proofs.lemmas.List.{length-append, length-drop, length-take-le, take_at, drop_at, drop_all, drop-drop, take-append-le}
 use Rattle.std.proofs.lemmas.Bool.{cases_lt}
 use Rattle.device.specs.Faults.{Faults, Within}
-use Rattle.device.specs.Meaning.{Meaning, Sectors, zeros, well}
+use Rattle.device.specs.Meaning.{Meaning, Sectors, zeros}
 use Rattle.device.specs.Transfers.{Writes}
 use Rattle.device.specs.declared.faults.Act.TheVariants.{Write}
 use Rattle.device.specs.declared.faults.Fault.{Fault}
 use Rattle.device.proofs.Zeros.{length-zeros, take-zeros, drop-zeros}
 use Rattle.layout.specs.Sizes.{block_of}
 use Rattle.layout.specs.declared.sizes.Layout.{Layout}
-use Rattle.runs.specs.Writes.{SectorWrite, write_of, applied, with_sectors, failed_with, Completed, Interrupted, Written, zeroing}
+use Rattle.runs.specs.Writes.{SectorWrite, write_of, applied, with_sectors, failed_with, Written, zeroing}
 use Rattle.runs.proofs.Runs.{length-zeroing, get_or-zeroing, take-zeroing}
 use Rattle.runs.proofs.Sequences.{take-append_add}
 use Rattle.places.specs.Places.{counted_up}
-use Rattle.places.specs.SlotWrites.{SlotWrite, enter, fill, written, all_written}
+use Rattle.places.specs.SlotWrites.{SlotWrite, fill, all_written}
 use Rattle.places.proofs.Lists.{length-counted, get_or-counted}
 use Rattle.plans.specs.Plans.{Reads, never, to_slot, filling, chunk, zero_chunk}
 use Rattle.volume.specs.Directory.{Room}

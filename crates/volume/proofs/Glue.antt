@@ -1,9 +1,9 @@
 -- Steps put together: what follows all of some writes, and what cuts them off.
-use Rattle.std.proofs.Common.{◌≡◌, ℕ, zero, suc, ◌+◌, ◌-◌, ◌*◌, ◌/◌, ◌%◌, ◌<◌, ◌≤◌, Bool, true, false, ◌&&◌, ltb, ◌⊎◌, List, [], ◌∷◌, ◌++◌, length, get_or, take, drop, sym, refl, ap, ◌∙◌, subst, ap₂, inl, inr, arith, length-append, lt-ltb}
+use Rattle.std.proofs.Common.{◌≡◌, ℕ, zero, suc, ◌+◌, ◌<◌, ◌≤◌, Bool, true, false, ◌&&◌, ltb, ◌⊎◌, List, [], ◌∷◌, ◌++◌, length, take, drop, sym, refl, ap, ◌∙◌, subst, ap₂, inl, inr, arith, length-append, lt-ltb}
 use Rattle.std.proofs.lemmas.List.{get_or-append-add, get_or_append_left, take-append-le}
 use Rattle.std.specs.Str.{bytes_eq}
 use Rattle.device.specs.Faults.{Faults, Within}
-use Rattle.device.specs.Meaning.{Meaning, Sectors, MayAccept, MayRefuse, now_failed, well}
+use Rattle.device.specs.Meaning.{Meaning, Sectors, MayAccept}
 use Rattle.device.specs.declared.faults.Act.TheVariants.{Read, Write}
 use Rattle.device.specs.declared.faults.Fault.{Fault}
 use Rattle.layout.specs.Bytes.{part}
@@ -17,12 +17,12 @@ use Rattle.entries.specs.declared.entry.Entry.{Entry}
 use Rattle.entries.specs.declared.state.EntryState.{EntryState}
 use Rattle.entries.specs.declared.state.EntryState.TheVariants.{Empty, Held, Erased, Live, Damaged}
 use Rattle.places.specs.Places.{Place, place, places}
-use Rattle.places.specs.SlotWrites.{SlotAct, SlotWrite, enter, fill, written, all_written}
+use Rattle.places.specs.SlotWrites.{SlotWrite, written, all_written}
 use Rattle.places.proofs.Frames.{place_at, place_slot, place_first, length-all_written}
 use Rattle.plans.specs.Plans.{Reads, never, for_entries, at_first, between, place_in, entry_of}
 use Rattle.plans.specs.Slots.{Job, job_in, as_slot, slot_by, decoded, usable, named}
 use Rattle.volume.specs.Directory.{Room, directory_sector, ReadRefused}
-use Rattle.volume.specs.Performing.{Performed, sector_of, no_write, CutAtWrite, IsEntry, Enters, Looks, CutAtRead, Cut, at_write, at_read}
+use Rattle.volume.specs.Performing.{Performed, sector_of, no_write, Enters, Looks, Cut, at_write, at_read}
 
 pub written_append : (c : Layout) (s : Sectors) (ws vs : List SlotWrite) → all_written c s (ws ++ vs) ≡ all_written c (all_written c s ws) vs
 written_append c s [] vs = refl

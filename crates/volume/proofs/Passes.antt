@@ -1,5 +1,5 @@
 -- Passes over the directory, slot by slot, and what they find.
-use Rattle.std.proofs.Common.{◌≡◌, ℕ, zero, suc, ◌+◌, ◌-◌, ◌*◌, ◌/◌, ◌%◌, ◌<◌, ◌≤◌, Bool, true, false, cond, ◌⊎◌, List, [], ◌∷◌, ◌++◌, map, length, get_or, take, drop, Some, None, Ok, Err, Option, sym, refl, ap, ◌∙◌, subst, ap₂, inl, inr, arith}
+use Rattle.std.proofs.Common.{◌≡◌, ℕ, suc, ◌+◌, ◌/◌, ◌%◌, ◌<◌, ◌≤◌, Bool, true, false, cond, List, [], ◌∷◌, ◌++◌, length, get_or, take, drop, Some, None, Option, sym, refl, ap, ◌∙◌, subst, ap₂, inl, inr, arith}
 use Rattle.std.proofs.lemmas.List.{length-map, get_or-map, take_more, take_all, length-take-le, take-append-drop}
 use Rattle.std.proofs.lemmas.Bool.{cases_eq}
 use Rattle.std.specs.Option.{option_or}
@@ -17,10 +17,9 @@ use Rattle.entries.specs.declared.state.EntryState.{EntryState}
 use Rattle.places.specs.Places.{Place, places, no_place}
 use Rattle.places.proofs.Frames.{length-places}
 use Rattle.plans.specs.Plans.{place_in, entry_of}
-use Rattle.plans.specs.Slots.{Slot, empty, job_in, as_slot, decoded, slots_in, usable, named, one_up, lowest}
-use Rattle.volume.specs.Directory.{Room, directory_sector, ReadRefused, Turned, Turns, found_in, Passed, Scanned, Sought, InSlots}
+use Rattle.plans.specs.Slots.{Slot, empty, job_in, as_slot, decoded, slots_in, one_up, lowest}
+use Rattle.volume.specs.Directory.{Room, directory_sector, ReadRefused, Turned, found_in, Passed, InSlots}
 use Rattle.volume.specs.declared.found.Found.{Found}
-use Rattle.volume.specs.declared.found.Scan.{Scan}
 use Rattle.volume.proofs.Glue.{room_same, read_refused_from, entry_at, decoded_as}
 
 -- THE DIRECTORY SECTOR BY SECTOR

@@ -1,9 +1,8 @@
 -- How a call ends, by its plan: accepted, refused with the plan's number and nothing changed, or refused by the device
 -- with a first part of its writes on the card.
-use Rattle.std.specs.Prelude.{◌≡◌, ℕ, ◌<◌, ◌≤◌, ◌⊎◌, List, [], length, Ok, Err, Result}
+use Rattle.std.specs.Prelude.{◌≡◌, ◌<◌, ◌≤◌, ◌⊎◌, List, [], length, Ok, Err, Result}
 use Rattle.device.specs.Faults.{Faults}
 use Rattle.device.specs.Meaning.{Meaning, MayAccept}
-use Rattle.device.specs.declared.faults.Fault.{Fault}
 use Rattle.layout.specs.declared.sizes.Layout.{Layout}
 use Rattle.refusals.specs.Refusals.{IsByDevice}
 use Rattle.refusals.specs.declared.Refusal.{Refusal}

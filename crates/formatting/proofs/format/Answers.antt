@@ -1,4 +1,4 @@
-use Rattle.std.proofs.Common.{◌≡◌, length, sym, refl, ap, ◌∙◌, inl}
+use Rattle.std.proofs.Common.{sym, refl, ap, ◌∙◌, inl}
 use Rattle.std.proofs.lemmas.Result.{err_from_is_err_and}
 use Rattle.layout.specs.Sizes.{layout_of}
 use Rattle.formatting.proofs.Cards.{refused_name, refused_id, passed, some_sectors, area_fits, formats_completed, formats_interrupted, leaves_new, leaves_found}

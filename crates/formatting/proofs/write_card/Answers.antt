@@ -1,4 +1,4 @@
-use Rattle.std.proofs.Common.{◌≡◌, length, rules}
+use Rattle.std.proofs.Common.{rules}
 use Rattle.std.proofs.lemmas.Result.{err_from_is_err_and}
 use Rattle.formatting.proofs.Cards.{card_zeros_refused, card_label_refused, card_written}
 use Rattle.formatting.proofs.write_card.Goals as goal

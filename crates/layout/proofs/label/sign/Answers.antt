@@ -1,4 +1,4 @@
-use Rattle.std.proofs.Common.{◌≡◌, ℕ, List, ◌++◌, take, ap, ◌∙◌, ap₂, append-nil}
+use Rattle.std.proofs.Common.{◌≡◌, ℕ, List, ◌++◌, take, ap₂}
 use Rattle.layout.specs.Label.{signature}
 use Rattle.layout.proofs.Labels.{nothing_behind}
 use Rattle.layout.proofs.label.sign.Goals as goal

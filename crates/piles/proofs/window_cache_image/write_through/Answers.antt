@@ -1,4 +1,4 @@
-use Rattle.std.proofs.Common.{◌≡◌, sym, ap, ◌∙◌, subst}
+use Rattle.std.proofs.Common.{sym, ap, ◌∙◌, subst}
 use Rattle.caching.specs.Cache.{NothingKept}
 use Rattle.piles.proofs.Steady.{length_pile, written_through}
 use Rattle.piles.proofs.window_cache_image.write_through.Goals as goal

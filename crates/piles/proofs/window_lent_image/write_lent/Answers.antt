@@ -1,4 +1,4 @@
-use Rattle.std.proofs.Common.{◌≡◌, ap}
+use Rattle.std.proofs.Common.{ap}
 use Rattle.piles.proofs.Steady.{length_pile, written_through}
 use Rattle.piles.proofs.window_lent_image.write_lent.Goals as goal
 

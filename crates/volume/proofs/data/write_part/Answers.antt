@@ -1,4 +1,4 @@
-use Rattle.std.proofs.Common.{List, sym}
+use Rattle.std.proofs.Common.{sym}
 use Rattle.volume.proofs.Filling.{chunk_whole, writes_as}
 use Rattle.volume.proofs.data.write_part.Goals as goal
 

@@ -1,4 +1,4 @@
-use Rattle.std.proofs.Common.{◌≡◌, ℕ, ◌+◌, ◌-◌, ◌*◌, ◌%◌, ap, arith}
+use Rattle.std.proofs.Common.{◌≡◌, ◌+◌, ◌-◌, ◌*◌, ◌%◌, ap, arith}
 use Rattle.layout.specs.declared.sizes.EntryPlace.{EntryPlace}
 use Rattle.places.specs.SlotWrites.{spliced}
 use Rattle.volume.proofs.directory.put_entry.Goals as goal

@@ -1,4 +1,4 @@
-use Rattle.std.proofs.Common.{◌≡◌, ap, rules}
+use Rattle.std.proofs.Common.{ap, rules}
 use Rattle.layout.specs.declared.sizes.EntryPlace.{EntryPlace}
 use Rattle.volume.proofs.Entering.{reads_at, entry_read}
 use Rattle.volume.proofs.directory.read_entry.Goals as goal

@@ -1,4 +1,4 @@
-use Rattle.std.proofs.Common.{◌≡◌, ℕ, ◌<◌, Bool, length, sym, refl, ap, ◌∙◌, subst}
+use Rattle.std.proofs.Common.{ℕ, ◌<◌, Bool, length, sym, refl, ap, ◌∙◌, subst}
 use Rattle.device.proofs.Checks.{passed, raised_within}
 use Rattle.caching.specs.Cache.{Followed}
 use Rattle.caching.proofs.Kept.{kept_read, true_after_reads, kept_after}

@@ -1,4 +1,4 @@
-use Rattle.std.proofs.Common.{◌≡◌, ℕ, ◌<◌, Bool, sym, ◌∙◌, subst}
+use Rattle.std.proofs.Common.{ℕ, ◌<◌, Bool, sym, ◌∙◌, subst}
 use Rattle.device.proofs.Checks.{passed, raised_within}
 use Rattle.caching.specs.Cache.{Followed}
 use Rattle.caching.proofs.Kept.{true_after_writes, kept_after}

@@ -1,4 +1,4 @@
-use Rattle.std.proofs.Common.{◌<◌, arith}
+use Rattle.std.proofs.Common.{arith}
 use Rattle.caching.proofs.cache.Entries.find.Goals as goal
 
 pub returns : goal.returns

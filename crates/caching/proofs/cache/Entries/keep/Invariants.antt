@@ -1,4 +1,4 @@
-use Rattle.std.proofs.Common.{◌≡◌, ℕ, ◌<◌, ◌≢◌, List, length, get_or, Some, None}
+use Rattle.std.proofs.Common.{◌≡◌, ℕ, ◌<◌, ◌≢◌, List, length, get_or, None}
 use Rattle.caching.specs.Cache.{InPlace}
 use Rattle.caching.proofs.cache.Entries.keep.Given as goal
 

@@ -1,7 +1,7 @@
-use Rattle.std.proofs.Common.{◌≡◌, ℕ, List, [], ◌++◌, length, take, drop, set, replicate, ap, ◌∙◌, ap₂, append-nil, rules}
+use Rattle.std.proofs.Common.{◌≡◌, ℕ, List, ◌++◌, take, set, replicate, ap, ◌∙◌, ap₂, append-nil, rules}
 use borrow.Rule.Slice.PartMut.{put_mid, post_of}
 use Rattle.layout.specs.Words.{put_word, put_double}
-use Rattle.entries.specs.Entry.{entry_in, entry_rest, entry_bytes}
+use Rattle.entries.specs.Entry.{entry_in, entry_rest}
 use Rattle.entries.proofs.Entries.{entry_back}
 use Rattle.entries.proofs.entry.Entry.encode.Goals as goal
 

@@ -1,6 +1,5 @@
-use Rattle.std.proofs.Common.{◌≡◌, ℕ, Bool, true, false, not, ◌&&◌, eqb, sym, ap, ◌∙◌, ap₂, arith, lt-ltb, eq-eqb}
+use Rattle.std.proofs.Common.{arith}
 use Rattle.std.proofs.lemmas.Bool.Decides.{nat_tests}
-use Rattle.layout.specs.Names.{lawful_name}
 use Rattle.entries.specs.State.{live_entry}
 use Rattle.entries.proofs.entry.Entry.is_live.Goals as goal
 

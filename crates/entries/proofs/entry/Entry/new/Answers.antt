@@ -1,6 +1,5 @@
-use Rattle.std.proofs.Common.{◌≡◌, ℕ, ap}
+use Rattle.std.proofs.Common.{ℕ, ap}
 use Rattle.device.specs.Meaning.{zeros}
-use Rattle.layout.specs.Extents.{extent_of}
 use Rattle.entries.specs.Entry.{new_entry}
 use Rattle.entries.proofs.entry.Entry.new.Goals as goal
 

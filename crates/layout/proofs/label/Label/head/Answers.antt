@@ -1,7 +1,7 @@
-use Rattle.std.proofs.Common.{◌≡◌, ℕ, List, [], ◌++◌, replicate, ap, ◌∙◌, ap₂, append-nil, rules}
+use Rattle.std.proofs.Common.{◌≡◌, ℕ, List, ◌++◌, replicate, ap, ◌∙◌, ap₂, append-nil, rules}
 use borrow.Rule.Slice.PartMut.{put_mid}
 use Rattle.layout.specs.Words.{put_word, put_double}
-use Rattle.layout.specs.Label.{dos_name, dos_version, label_front, label_head}
+use Rattle.layout.specs.Label.{dos_name, dos_version, label_front}
 use Rattle.layout.proofs.label.Label.head.Goals as goal
 
 -- Each write in turn, on what the one before it left; the list is then written out up to the name and the id.

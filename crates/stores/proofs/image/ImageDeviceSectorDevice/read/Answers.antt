@@ -1,7 +1,6 @@
-use Rattle.std.proofs.Common.{ℕ, ◌+◌, ◌*◌, ◌<◌, ◌≤◌, length, sym, ◌∙◌, subst, arith}
+use Rattle.std.proofs.Common.{ℕ, ◌<◌, length, sym, ◌∙◌, subst, arith}
 use Rattle.std.proofs.lemmas.Result.{err_from_is_err_and}
 use Rattle.device.proofs.Checks.{passed, refused_read}
-use Rattle.stores.specs.Image.{image_count}
 use Rattle.stores.proofs.Images.{length-sectors_in, count_fits, image_reads}
 use Rattle.stores.proofs.image.ImageDeviceSectorDevice.read.Goals as goal
 
