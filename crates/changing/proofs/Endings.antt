@@ -1,23 +1,22 @@
 -- How calls end, test by test: what each exit of the code shows of the plan.
-use Rattle.std.proofs.Common.{◌≡◌, ℕ, ◌<◌, ◌≤◌, Bool, true, false, cond, ◌&&◌, ◌⊎◌, List, [], ◌∷◌, ◌++◌, length, Some, None, Ok, Err, Option, Result, sym, refl, ap, ◌∙◌, subst, ap₂, inl, inr, arith}
-use Rattle.std.specs.Str.{bytes_eq}
+use Rattle.std.proofs.Common.{◌≡◌, ℕ, Bool, true, false, cond, List, Some, None, Ok, Err, Option, sym, refl, ap, inl, inr, arith}
 use Rattle.device.specs.Faults.{Faults, Within}
-use Rattle.device.specs.Meaning.{Meaning, MayAccept}
+use Rattle.device.specs.Meaning.{Meaning}
 use Rattle.device.specs.declared.faults.Fault.{Fault}
 use Rattle.layout.specs.Names.{lawful_name, padded, name_of}
 use Rattle.layout.specs.declared.names.Name.{Name as LawfulName}
 use Rattle.layout.specs.declared.sizes.Layout.{Layout}
 use Rattle.refusals.specs.declared.Refusal.{Refusal}
-use Rattle.refusals.specs.declared.Refusal.TheVariants.{Name, Open, NoJob, NameTaken, Device}
+use Rattle.refusals.specs.declared.Refusal.TheVariants.{Open, Device}
 use Rattle.places.specs.SlotWrites.{SlotWrite}
-use Rattle.plans.specs.Calls.{Call, Answer, done}
-use Rattle.plans.specs.Memory.{OpenJob, Memory, card_layout}
-use Rattle.plans.specs.Plans.{Plan, tell, decline, refuse, go, Reads, never, for_entries, at_first, between, unless, found, vacant, named_shut}
+use Rattle.plans.specs.Calls.{Answer}
+use Rattle.plans.specs.Memory.{OpenJob, Memory}
+use Rattle.plans.specs.Plans.{Plan, tell, decline, refuse, go, Reads, never, for_entries, at_first, between, found, vacant, named_shut}
 use Rattle.changing.specs.Shut.{open_named, ReadsFirst}
 use Rattle.volume.specs.Directory.{ReadRefused}
-use Rattle.volume.specs.Outcomes.{WasRead, Ended, Plain}
-use Rattle.volume.specs.Performing.{Performed, Cut, Runs, Looks}
-use Rattle.volume.proofs.Glue.{read_cut, cut_as, looks_between, looks_at_first, read_cut_at, performed_from, cut_from, cut_within}
+use Rattle.volume.specs.Outcomes.{WasRead, Ended}
+use Rattle.volume.specs.Performing.{Performed, Cut, Looks}
+use Rattle.volume.proofs.Glue.{read_cut, cut_as, looks_between, performed_from, cut_from, cut_within}
 
 pub differ : {A : Type 0} → ◌≡◌ {A = ℕ} 0 1 → A
 differ e = absurd (omega arith)

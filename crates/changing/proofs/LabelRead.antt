@@ -1,5 +1,5 @@
 -- A label read, as the end of a mount.
-use Rattle.std.proofs.Common.{◌≡◌, ℕ, suc, ◌<◌, ◌≤◌, ◌⊎◌, List, [], ◌∷◌, length, get_or, Some, None, Ok, Err, Option, Result, sym, refl, ap, ◌∙◌, subst, ap₂, inl, inr, arith}
+use Rattle.std.proofs.Common.{◌≡◌, ℕ, suc, ◌<◌, ◌⊎◌, List, [], ◌∷◌, length, get_or, Some, None, Ok, Err, Option, Result, sym, refl, ap, ◌∙◌, subst, inl, inr, arith}
 use Rattle.device.specs.Faults.{Faults}
 use Rattle.device.specs.Meaning.{Meaning, Sectors, MayAccept, MayRefuse, now_failed, sector}
 use Rattle.device.specs.declared.faults.Act.TheVariants.{Read}
@@ -8,12 +8,11 @@ use Rattle.layout.specs.Label.{bad_field, label_in, read_label, answered}
 use Rattle.layout.specs.Words.{double_at}
 use Rattle.layout.specs.declared.label.Label.{Label}
 use Rattle.refusals.specs.declared.Refusal.{Refusal}
-use Rattle.refusals.specs.declared.Refusal.TheVariants.{Field, Device}
+use Rattle.refusals.specs.declared.Refusal.TheVariants.{Device}
 use Rattle.formatting.specs.Format.{labelled, ReadsLabel}
 use Rattle.plans.specs.Calls.{mount}
 use Rattle.plans.specs.Memory.{Memory, mounted, card_layout}
-use Rattle.plans.specs.Plans.{at_first, mount_plan, mount_by}
-use Rattle.volume.specs.Directory.{ReadRefused}
+use Rattle.plans.specs.Plans.{mount_plan, mount_by}
 use Rattle.volume.specs.Outcomes.{Ended, Performs, Plain}
 use Rattle.volume.proofs.Glue.{read_cut}
 

@@ -1,3 +1,4 @@
-pub mod LabelRead
 pub mod Endings
+pub mod LabelRead
+pub mod Marking
 pub mod Shutting

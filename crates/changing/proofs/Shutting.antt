@@ -1,17 +1,17 @@
 -- A job looked for by its name, as the beginning of a call.
-use Rattle.std.proofs.Common.{◌≡◌, ℕ, ◌<◌, ◌≤◌, Bool, true, false, cond, List, [], ◌∷◌, length, Some, None, Ok, Err, Option, sym, refl, ap, ◌∙◌, subst, ap₂}
+use Rattle.std.proofs.Common.{◌≡◌, ℕ, ◌<◌, ◌≤◌, true, false, List, length, Some, None, Err, Option, sym, refl, ap, ◌∙◌, subst}
 use Rattle.device.specs.Faults.{Faults}
 use Rattle.device.specs.Meaning.{Meaning}
 use Rattle.device.specs.declared.faults.Fault.{Fault}
-use Rattle.layout.specs.Names.{lawful_name, padded, name_of}
+use Rattle.layout.specs.Names.{padded, name_of}
 use Rattle.layout.specs.Sizes.{layout_of}
 use Rattle.layout.specs.declared.names.Name.{Name as LawfulName}
 use Rattle.layout.specs.declared.sizes.Layout.{Layout}
 use Rattle.refusals.specs.declared.Refusal.TheVariants.{Name, Open, NoJob, Device}
 use Rattle.places.specs.Places.{Place}
 use Rattle.plans.specs.Memory.{Memory, card_layout}
-use Rattle.plans.specs.Plans.{Plan, decline, refuse, unless, found, named_shut, slot_named, card_places, place_in, entry_of}
-use Rattle.volume.specs.Directory.{Room, ReadRefused, Passed, Sought, found_in, InSlots}
+use Rattle.plans.specs.Plans.{Plan, found, slot_named, card_places, place_in, entry_of}
+use Rattle.volume.specs.Directory.{Room, ReadRefused, Sought, found_in}
 use Rattle.volume.specs.Outcomes.{Ended, Plain}
 use Rattle.volume.specs.declared.found.Found.{Found}
 use Rattle.volume.proofs.Glue.{room}

@@ -7,7 +7,6 @@ use Rattle.layout.specs.Names.{lawful_name, padded}
 use Rattle.places.specs.Places.{Place}
 use Rattle.refusals.specs.declared.Refusal.{Refusal}
 use Rattle.refusals.specs.declared.Refusal.TheVariants.{Name, NoJob}
-use Rattle.plans.specs.Calls.{Answer}
 use Rattle.plans.specs.Memory.{OpenJob, Memory, card_layout}
 use Rattle.plans.specs.Plans.{Plan, tell, decline, refuse, go, never, for_entries, at_first, between, unless, found, named_shut, slot_named, card_places, place_in, entry_of}
 use Rattle.volume.specs.Directory.{Passed}

@@ -1,14 +1,40 @@
-use Rattle.std.proofs.Common.{rules}
+use Rattle.std.proofs.Common.{[], ◌∷◌}
+use Rattle.std.proofs.lemmas.Result.{err_from_is_err_and}
+use Rattle.plans.specs.Plans.{go, at_first, entering, entry_of, place_in, card_places, erase_plan}
+use Rattle.plans.specs.Calls.{done}
+use Rattle.entries.specs.Entry.{first_set}
+use Rattle.volume.specs.Kept.{kept}
+use Rattle.changing.proofs.Marking.{erase_done, erase_cut}
 use Rattle.changing.proofs.erasing.erase.Goals as goal
 
--- src/erasing.rt:19:15
 pub returns-in_err-job : goal.returns-in_err-job
-returns-in_err-job g c = ?
+unfolding erase_plan
+returns-in_err-job g c =
+    let e = c.in_err-job.ensures in
+    let p = err_from_is_err_and c.from_residual.result c.from_residual.ensures.1 in
+    let q = kept c.args.memory.now in
+    let ps = card_places q (g.D.SectorDevice.meaning c.args.device.now).sectors in
+    record {
+      keeps = e.keeps;
+      performs = λ s. rw (p.1, p.2)
+          (record { ends = λ h. e.finds s h (λ k. go at_first (entering k (first_set (entry_of (place_in ps k)) 127) ∷ []) done q) (λ k. tt) });
+    }
 
--- src/erasing.rt:21:5
 pub returns-in_err-write_entry : goal.returns-in_err-write_entry
-returns-in_err-write_entry g c = ?
+returns-in_err-write_entry g c =
+    let f = c.in_ok-job.ensures in
+    let e = c.in_err-write_entry.ensures in
+    let p = err_from_is_err_and c.from_residual-in_err-write_entry.result c.from_residual-in_err-write_entry.ensures.1 in
+    record {
+      keeps = λ s. let a = f.keeps s in let b = e.keeps a.0 in (b.0, λ x n y z. a.1 x n y (b.1 x n y z));
+      performs = λ s. rw (p.1, p.2) (erase_cut _ _ _ _ _ (kept c.args.memory.now) c.args.name.now c.in_ok-job.job c.with_first.result _ (f.finds s) c.with_first.ensures (f.keeps s).1 (e.runs (f.keeps s).0));
+    }
 
--- src/erasing.rt:15:1
 pub returns : goal.returns
-returns g c = ?
+returns g c =
+    let f = c.in_ok-job.ensures in
+    let e = c.in_ok-write_entry.ensures in
+    record {
+      keeps = λ s. let a = f.keeps s in let b = e.keeps a.0 in (b.0, λ x n y z. a.1 x n y (b.1 x n y z));
+      performs = λ s. erase_done _ _ _ _ (kept c.args.memory.now) c.args.name.now c.in_ok-job.job c.with_first.result (f.finds s) c.with_first.ensures (e.runs (f.keeps s).0);
+    }

@@ -1,7 +1,7 @@
-use Rattle.std.proofs.Common.{◌≡◌, sym, ◌∙◌}
+use Rattle.std.proofs.Common.{sym, ◌∙◌}
 use Rattle.std.proofs.lemmas.Result.{err_from_is_err_and}
 use Rattle.volume.specs.Kept.{kept}
-use Rattle.changing.proofs.Shutting.{shut_unlawful, shut_open, shut_unread, shut_none, shut_some}
+use Rattle.changing.proofs.Shutting.{shut_unread}
 use Rattle.changing.proofs.named.find_shut.Goals as goal
 
 pub returns-in_err-found : goal.returns-in_err-found
