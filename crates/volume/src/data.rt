@@ -41,7 +41,7 @@ pub(crate) fn write_part<D: SectorDevice>(device: &mut D, n: u32, part: &[u8]) -
     device.write(n, &padded_sector(part))
 }
 
-// A job's bytes into the sectors of a slot's block, upwards.
+// A job's bytes into the sectors of a slot's block, upwards. Asks: at most 65,535 bytes, as a job has.
 pub fn write_data<D: SectorDevice>(
     device: &mut D,
     layout: &Layout,
