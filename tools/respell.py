@@ -3,8 +3,10 @@
 only between a function and what it is of (length-zeros). Run once, at the top, after the kit's own port.py.
 
 tools/respell.txt has a line for each name, old and new. Names stand in .antt files and in the clauses of .rt files; strings, and
-names of the code, stay as they are (none of them has a dash). A name of a goal or of a step of the code is none of ours: it is not
-in the table."""
+names of the code, stay as they are (none of them has a dash).
+
+It was run once, before proofs had today's names of goals and steps. It is kept to show what was renamed, and is not to be run again:
+`write-answer` and `new-card`, which were names of lemmas, are names of steps in some answers now."""
 import re, pathlib
 
 TOP = pathlib.Path(__file__).resolve().parent.parent

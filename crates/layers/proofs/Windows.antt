@@ -24,9 +24,9 @@ length_window s f k =
 there : (s : Sectors) (f k i : ℕ) → i < window_count (length s) f k → f + i < length s
 there s f k i h = elim (count_fits (length s) f k) [ inl z ↦ omega arith | inr l ↦ omega arith ]
 
-get_d_window : (s : Sectors) (f k i : ℕ) → i < window_count (length s) f k →
+get_or-window : (s : Sectors) (f k i : ℕ) → i < window_count (length s) f k →
     get_or (take (window_count (length s) f k) (drop f s)) i [] ≡ get_or s (f + i) []
-get_d_window s f k i h = get_or-take (window_count (length s) f k) (drop f s) i [] h ∙ get_or-drop f s i []
+get_or-window s f k i h = get_or-take (window_count (length s) f k) (drop f s) i [] h ∙ get_or-drop f s i []
 
 take-set : {X : Type 0} (n i : ℕ) (xs : List X) (y : X) → take n (set xs i y) ≡ set (take n xs) i y
 take-set zero i xs y = refl
@@ -69,7 +69,7 @@ window_lawful m f k l = record {
   few = rw length_window (few (length m.sectors) f k l.few);
   whole = λ i h.
       let h' : i < window_count (length m.sectors) f k = rw length_window at h in
-      ap length (get_d_window m.sectors f k i h') ∙ l.whole (f + i) (there m.sectors f k i h');
+      ap length (get_or-window m.sectors f k i h') ∙ l.whole (f + i) (there m.sectors f k i h');
   bytes = bytes_taken (window_count (length m.sectors) f k) (drop f m.sectors) (bytes_left f m.sectors l.bytes);
 }
 
@@ -83,7 +83,7 @@ shown f k m = window_of m f k
 read_answer : (t : Faults) (m m' : Meaning) (f k i : ℕ) (b b' : List ℕ) (a : Result (Unit {0}) Fault) →
     i < window_count (length m.sectors) f k → ReadAnswer t m m' (f + i) b b' a →
     ReadAnswer (raised_faults t (λ n. f + n)) (window_of m f k) (window_of m' f k) i b b' (passed_answer a)
-read_answer t m m' f k i b b' (Ok u) h p = (p.0, p.1 ∙ sym (get_d_window m.sectors f k i h), ap (shown f k) p.2)
+read_answer t m m' f k i b b' (Ok u) h p = (p.0, p.1 ∙ sym (get_or-window m.sectors f k i h), ap (shown f k) p.2)
 read_answer t m m' f k i b b' (Err e) h p = (p.0, (e, p.1, refl), p.2, ap (shown f k) p.3)
 
 -- a read of a sector of the window is a read beneath

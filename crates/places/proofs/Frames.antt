@@ -103,7 +103,7 @@ pub length-places : (c : Layout) (s : Sectors) → length (places c s) ≡ c.slo
 unfolding places
 length-places c s = length-counted (place c s) 0 c.slots
 
--- a write all_moved its place, and no other
+-- a write moves its place, and no other
 pub places_put : (c : Layout) → Sound c → (s : Sectors) → Shaped c s → (w : SlotWrite) → w.slot < c.slots → FitsAct w.act → places c (written c s w) ≡ moved (places c s) w
 unfolding places
 places_put c v s g w h f =
