@@ -1,25 +1,27 @@
 -- The cache: what it keeps, and what that has to do with the device beneath.
-use Rattle.std.specs.Prelude.{◌≡◌, ℕ, ◌<◌, Bool, true, false, ◌≢◌, ◌⊎◌, List, length, Some, None, Option, slice_index_or}
+use Rattle.std.specs.Prelude.{◌≡◌, ℕ, ◌<◌, ◌≢◌, ◌⊎◌, List, length, Some, None, Ok, Err, Option, Result, slice_index_or}
 use Rattle.device.specs.Meaning.{Meaning, MayAccept, sector}
+use Rattle.device.specs.declared.faults.Fault.{Fault}
 use Rattle.device.specs.declared.sector_device.SectorDevice.{Ghosts}
 use Rattle.layers.specs.Layer.{passed_on}
 use Rattle.caching.specs.declared.cache.Cache.{Cache}
-use Rattle.caching.specs.declared.cache.Entry.{Entry}
+use Rattle.kept.specs.Kept.{Places}
+use Rattle.kept.specs.declared.KeptSector.{KeptSector}
 
 -- a place keeps the bytes b of sector n
-abbrev pub InPlace : Option Entry → ℕ → List ℕ → Type 0
+abbrev pub InPlace : Option KeptSector → ℕ → List ℕ → Type 0
 InPlace (Some e) n b = (e.sector ≡ n) × (e.bytes ≡ b)
 InPlace None n b = ⊥
 
 -- one of the four places keeps the bytes b of sector n
-abbrev pub Kept : List (Option Entry) → ℕ → List ℕ → Type 0
+abbrev pub Kept : Places → ℕ → List ℕ → Type 0
 Kept xs n b = (i : ℕ) × (i < 4) × InPlace (slice_index_or xs i None) n b
 
-abbrev pub NothingKept : List (Option Entry) → Type 0
+abbrev pub NothingKept : Places → Type 0
 NothingKept xs = (n : ℕ) (b : List ℕ) → Kept xs n b → ⊥
 
 -- what is kept is what lies there, and nothing is kept of a failed device
-abbrev pub TrueOf : Meaning → List (Option Entry) → Type 0
+abbrev pub TrueOf : Meaning → Places → Type 0
 TrueOf m xs = (n : ℕ) (b : List ℕ) → Kept xs n b → (n < length m.sectors) × (b ≡ sector m n) × MayAccept m.condition
 
 -- it means what the device beneath means; it is sound where that device is and what is kept is true of it
@@ -30,17 +32,12 @@ cache_layer g = record {
   faults = λ d. passed_on (g.faults d.beneath);
 }
 
--- a search for sector n: found, and its bytes are b' now; or not kept, and the buffer is as it was
-abbrev pub Found : List (Option Entry) → ℕ → (b b' : List ℕ) → Bool → Type 0
-Found xs n b b' true = Kept xs n b'
-Found xs n b b' false = (b' ≡ b) × ((x : List ℕ) → Kept xs n x → ⊥)
-
 -- ys keeps the bytes b of sector n, and otherwise only what xs keeps of other sectors
-pub record KeptToo (xs ys : List (Option Entry)) (n : ℕ) (b : List ℕ) : Type 0 where
+pub record KeptToo (xs ys : Places) (n : ℕ) (b : List ℕ) : Type 0 where
   pub here : Kept ys n b
   pub others : (k : ℕ) (x : List ℕ) → Kept ys k x → ((k ≡ n) × (x ≡ b)) ⊎ ((k ≢ n) × Kept xs k x)
 
 -- after a transfer of sector n with the bytes b: kept too if it was accepted, and otherwise nothing is kept
-abbrev pub Followed : (xs ys : List (Option Entry)) → ℕ → List ℕ → Bool → Type 0
-Followed xs ys n b true = KeptToo xs ys n b
-Followed xs ys n b false = NothingKept ys
+abbrev pub Followed : (xs ys : Places) → ℕ → List ℕ → Result (Unit {0}) Fault → Type 0
+Followed xs ys n b (Ok u) = KeptToo xs ys n b
+Followed xs ys n b (Err f) = NothingKept ys

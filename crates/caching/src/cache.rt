@@ -1,23 +1,17 @@
 // The cache: up to four sectors of the device beneath, kept as they were last read or written. Every write goes
 // through to the device.
 ghost use Rattle.std.specs.Prelude.{◌≡◌, ℕ, List, length, Ok};
-ghost use Rattle.layers.specs.Layer.{Stays, KeepsFaults, ReadsSector, WritesSector};
-ghost use Rattle.caching.specs.Cache.{cache_layer, Kept, NothingKept, Found, KeptToo, Followed};
+ghost use Rattle.device.specs.Calls.{Stays, KeepsFaults, ReadsSector, WritesSector};
+ghost use Rattle.caching.specs.Cache.{cache_layer, Kept, NothingKept, KeptToo, Followed};
 
 use device::{Act, Fault, Geometry, SectorDevice, check_transfer, zero_sector};
+use kept::{KeptSector, find, give_back};
 use layers::passed_on;
-
-// A sector that is kept.
-#[derive(Clone, Copy)]
-struct Entry {
-    sector: u32,
-    bytes: [u8; 512],
-}
 
 // The kept sectors, and the place that the next one takes.
 #[derive(Clone, Copy)]
 struct Entries {
-    places: [Option<Entry>; 4],
+    places: [Option<KeptSector>; 4],
     next: usize,
 }
 
@@ -31,53 +25,28 @@ impl Entries {
         }
     }
 
-    // Copies sector n out if it is kept.
-    fn find(&self, n: u32, buf: &mut [u8]) -> bool
-        requires { length buf.old ≡ 512 }
-        ensures { Found self.now.places n buf.old buf.new result }
-    {
-        for i in 0..4 {
-            if let Some(entry) = self.places[i] {
-                if entry.sector == n {
-                    buf.copy_from_slice(&entry.bytes);
-                    return true;
-                }
-            }
-        }
-        false
-    }
-
     // Keeps sector n, in place of what was kept of it.
     fn keep(&mut self, n: u32, bytes: &[u8])
         requires { length bytes.now ≡ 512 }
         ensures { KeptToo self.old.places self.new.places n bytes.now }
     {
-        for i in 0..4 {
-            if let Some(entry) = self.places[i] {
-                if entry.sector == n {
-                    self.places[i] = None;
-                }
-            }
-        }
-        let mut own = zero_sector();
-        own.copy_from_slice(bytes);
+        give_back(&mut self.places, n);
         let at = self.next % 4;
-        self.places[at] = Some(Entry {
+        self.places[at] = Some(KeptSector {
             sector: n,
-            bytes: own,
+            bytes: bytes.try_into().unwrap(),
         });
         self.next = at + 1;
     }
 
     // Keeps sector n after an accepted transfer, and nothing at all after a refused one.
-    fn follow(&mut self, n: u32, bytes: &[u8], accepted: bool)
+    fn follow(&mut self, n: u32, bytes: &[u8], answer: &Result<(), Fault>)
         requires { length bytes.now ≡ 512 }
-        ensures { Followed self.old.places self.new.places n bytes.now accepted }
+        ensures { Followed self.old.places self.new.places n bytes.now answer.now }
     {
-        if accepted {
-            self.keep(n, bytes);
-        } else {
-            *self = Entries::none();
+        match answer {
+            Ok(()) => self.keep(n, bytes),
+            Err(_) => *self = Entries::none(),
         }
     }
 }
@@ -106,11 +75,8 @@ impl<D: SectorDevice> Cache<D> {
     pub fn into_beneath(self) -> D
         ensures { result ≡ self.beneath }
     {
-        let Cache {
-            beneath: device,
-            entries: _,
-        } = self;
-        device
+        let Cache { beneath, .. } = self;
+        beneath
     }
 }
 
@@ -137,11 +103,12 @@ impl<D: SectorDevice> SectorDevice for Cache<D> {
         ensures keeps { result ≡ Ok tt → Kept self.new.entries.places n buf.new }
     {
         check_transfer(Act::Read, n, self.beneath.size(), buf.len())?;
-        if self.entries.find(n, buf) {
+        if let Some(bytes) = find(&self.entries.places, n) {
+            buf.copy_from_slice(bytes);
             return Ok(());
         }
         let answer = self.beneath.read(n, buf);
-        self.entries.follow(n, buf, answer.is_ok());
+        self.entries.follow(n, buf, &answer);
         passed_on(answer)
     }
 
@@ -153,7 +120,7 @@ impl<D: SectorDevice> SectorDevice for Cache<D> {
     {
         check_transfer(Act::Write, n, self.beneath.size(), buf.len())?;
         let answer = self.beneath.write(n, buf);
-        self.entries.follow(n, buf, answer.is_ok());
+        self.entries.follow(n, buf, &answer);
         passed_on(answer)
     }
 }

@@ -6,40 +6,33 @@ ghost use Rattle.device.specs.Faults.{cause_number, act_number, fault, raised_fa
 #[derive(Clone, Copy, PartialEq, Eq, Debug)]
 pub enum Cause {
     // the buffer is not one sector long
-    Length,
+    Length = 1,
     // there is no such sector
-    Range,
+    Range = 2,
     // the device itself would not
-    Device,
+    Device = 3,
 }
 
 impl Cause {
     pub fn number(self) -> u8
         ensures { result ≡ cause_number self }
     {
-        match self {
-            Cause::Length => 1,
-            Cause::Range => 2,
-            Cause::Device => 3,
-        }
+        self as u8
     }
 }
 
 // What was asked of the device.
 #[derive(Clone, Copy, PartialEq, Eq, Debug)]
 pub enum Act {
-    Read,
-    Write,
+    Read = 1,
+    Write = 2,
 }
 
 impl Act {
     pub fn number(self) -> u8
         ensures { result ≡ act_number self }
     {
-        match self {
-            Act::Read => 1,
-            Act::Write => 2,
-        }
+        self as u8
     }
 }
 

@@ -9,20 +9,19 @@ use Rattle.layers.specs.Layer.{passed_answer, passed_on}
 apart : {a b : ℕ} → a ≤ b → b < a → ⊥
 apart h k = omega arith
 
-read_answer : (t : Faults) (m m' : Meaning) (n : ℕ) (b b₁ b' : List ℕ) (a : Result (Unit {0}) Fault) → b₁ ≡ b →
-    ReadAnswer t m m' n b₁ b' a → ReadAnswer (passed_on t) m m' n b b' (passed_answer a)
-read_answer t m m' n b b₁ b' (Ok u) e p = p
-read_answer t m m' n b b₁ b' (Err f) e p = (p.0, (f, p.1, refl), p.2 ∙ e, p.3)
+read_answer : (t : Faults) (m m' : Meaning) (n : ℕ) (b b' : List ℕ) (a : Result (Unit {0}) Fault) →
+    ReadAnswer t m m' n b b' a → ReadAnswer (passed_on t) m m' n b b' (passed_answer a)
+read_answer t m m' n b b' (Ok u) p = p
+read_answer t m m' n b b' (Err f) p = (p.0, (f, p.1, refl), p.2, p.3)
 
--- a read that was given to the device beneath with the buffer as it was
-pub passed_reads : {t : Faults} {m m' : Meaning} {n : ℕ} {b b₁ b' : List ℕ} {a r : Result (Unit {0}) Fault} →
-    r ≡ passed_answer a → b₁ ≡ b → length b ≡ 512 → n < length m.sectors → Reads t m m' n b₁ b' a → Reads (passed_on t) m m' n b b' r
-passed_reads {t = t} {m = m} {m' = m'} {n = n} {b = b} {b₁ = b₁} {b' = b'} {a = a} q e l h p = record {
+pub passed_reads : {t : Faults} {m m' : Meaning} {n : ℕ} {b b' : List ℕ} {a r : Result (Unit {0}) Fault} →
+    r ≡ passed_answer a → length b ≡ 512 → n < length m.sectors → Reads t m m' n b b' a → Reads (passed_on t) m m' n b b' r
+passed_reads {t = t} {m = m} {m' = m'} {n = n} {b = b} {b' = b'} {a = a} q l h p = record {
   wrong_length = λ ne. elim (ne l) [ ];
   out_of_range = λ _ o. elim (apart o h) [ ];
   otherwise = λ _ _.
       subst (λ (x : Result (Unit {0}) Fault). ReadAnswer (passed_on t) m m' n b b' x) (sym q)
-      (read_answer t m m' n b b₁ b' a e (p.otherwise (ap length e ∙ l) h));
+      (read_answer t m m' n b b' a (p.otherwise l h));
 }
 
 write_answer : (t : Faults) (m m' : Meaning) (n : ℕ) (b : List ℕ) (a : Result (Unit {0}) Fault) →

@@ -27,9 +27,9 @@ window_of m first count = record {
 -- it is sound where the device beneath is, and counts that device's sector first + n as its sector n
 abbrev pub window_layer : {D : Type 0} → Ghosts D → Ghosts (Window D)
 window_layer g = record {
-  meaning = λ d. window_of (g.meaning d.beneath) d.first d.count;
+  meaning = λ d. window_of (g.meaning d.beneath) d.span.first d.span.count;
   sound = λ d. g.sound d.beneath;
-  faults = λ d. raised_faults (g.faults d.beneath) (λ n. d.first + n);
+  faults = λ d. raised_faults (g.faults d.beneath) (λ n. d.span.first + n);
 }
 
 -- What a transfer of sector n of the window does beneath: t is the faults of the device beneath, m that device before
@@ -50,9 +50,9 @@ pub record WritesBeneath (t : Faults) (m m' : Meaning) (first count n : ℕ) (b 
 abbrev pub AsksRead : {D : Type 0} → Ghosts D → (d d' : Window D) (n : ℕ) (b b' : List ℕ) → Result (Unit {0}) Fault → Type 0
 AsksRead g d d' n b b' r =
     g.sound d.beneath →
-    ReadsBeneath (g.faults d.beneath) (g.meaning d.beneath) (g.meaning d'.beneath) d.first d.count n b b' r
+    ReadsBeneath (g.faults d.beneath) (g.meaning d.beneath) (g.meaning d'.beneath) d.span.first d.span.count n b b' r
 
 abbrev pub AsksWrite : {D : Type 0} → Ghosts D → (d d' : Window D) (n : ℕ) (b : List ℕ) → Result (Unit {0}) Fault → Type 0
 AsksWrite g d d' n b r =
     g.sound d.beneath →
-    WritesBeneath (g.faults d.beneath) (g.meaning d.beneath) (g.meaning d'.beneath) d.first d.count n b r
+    WritesBeneath (g.faults d.beneath) (g.meaning d.beneath) (g.meaning d'.beneath) d.span.first d.span.count n b r

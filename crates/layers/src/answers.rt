@@ -8,8 +8,5 @@ use device::Fault;
 pub fn passed_on(answer: Result<(), Fault>) -> Result<(), Fault>
     ensures { result ≡ passed_answer answer }
 {
-    match answer {
-        Ok(()) => Ok(()),
-        Err(fault) => Err(fault.raised()),
-    }
+    answer.map_err(Fault::raised)
 }

@@ -1,6 +1,6 @@
 // The counting layer: it passes every transfer on, and counts those that were accepted.
 ghost use Rattle.std.specs.Prelude.{◌≡◌};
-ghost use Rattle.layers.specs.Layer.{Stays, KeepsFaults, ReadsSector, WritesSector};
+ghost use Rattle.device.specs.Calls.{Stays, KeepsFaults, ReadsSector, WritesSector};
 ghost use Rattle.layers.specs.Counting.{counting_layer, one_more, counted};
 
 use crate::answers::passed_on;
@@ -40,12 +40,8 @@ impl<D: SectorDevice> Counting<D> {
     pub fn into_beneath(self) -> D
         ensures { result ≡ self.beneath }
     {
-        let Counting {
-            beneath: device,
-            reads: _,
-            writes: _,
-        } = self;
-        device
+        let Counting { beneath, .. } = self;
+        beneath
     }
 
     // How many reads were accepted, at most 2^64 - 1.
@@ -86,13 +82,9 @@ impl<D: SectorDevice> SectorDevice for Counting<D> {
         ensures counted_writes { self.new.writes ≡ self.old.writes }
     {
         check_transfer(Act::Read, n, self.beneath.size(), buf.len())?;
-        match passed_on(self.beneath.read(n, buf)) {
-            Ok(()) => {
-                add_one(&mut self.reads);
-                Ok(())
-            }
-            Err(fault) => Err(fault),
-        }
+        passed_on(self.beneath.read(n, buf))?;
+        add_one(&mut self.reads);
+        Ok(())
     }
 
     fn write(&mut self, n: u32, buf: &[u8]) -> Result<(), Fault>
@@ -103,12 +95,8 @@ impl<D: SectorDevice> SectorDevice for Counting<D> {
         ensures counted_writes { self.new.writes ≡ counted self.old.writes result }
     {
         check_transfer(Act::Write, n, self.beneath.size(), buf.len())?;
-        match passed_on(self.beneath.write(n, buf)) {
-            Ok(()) => {
-                add_one(&mut self.writes);
-                Ok(())
-            }
-            Err(fault) => Err(fault),
-        }
+        passed_on(self.beneath.write(n, buf))?;
+        add_one(&mut self.writes);
+        Ok(())
     }
 }

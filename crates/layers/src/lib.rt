@@ -11,4 +11,4 @@ pub mod counting;
 
 pub use answers::passed_on;
 pub use counting::Counting;
-pub use window::{Window, is_window};
+pub use window::{Span, Window};

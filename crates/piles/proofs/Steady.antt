@@ -12,19 +12,22 @@ use Rattle.device.specs.declared.faults.Act.TheVariants.{Write}
 use Rattle.stores.specs.Image.{sectors_in, image_count, image_of}
 use Rattle.stores.proofs.Images.{length-sectors_in}
 use Rattle.layers.specs.Layer.{passed_answer}
+use Rattle.layers.specs.declared.window.Span.{Span}
 use Rattle.layers.specs.Window.{window_count, WritesBeneath}
 use Rattle.layers.proofs.Windows.{length_window}
 use Rattle.piles.specs.WindowOnImage.{pile_count, ReadsBack, InImage, image_sectors, WritesThrough}
 
--- the sectors of the pile, made of the bytes bs₀, first f₀ and count k₀
-pub length_pile : (bs bs₀ : List ℕ) (f f₀ k k₀ : ℕ) → bs ≡ bs₀ → f ≡ f₀ → k ≡ k₀ →
-    length (take (window_count (length (sectors_in (image_count (length bs)) bs)) f k) (drop f (sectors_in (image_count (length bs)) bs)))
-    ≡ pile_count (length bs₀) f₀ k₀
-length_pile bs bs₀ f f₀ k k₀ e p q =
-    let s = sectors_in (image_count (length bs)) bs in
-    length_window s f k
-    ∙ ap (λ (j : ℕ). window_count j f k) (length-sectors_in (image_count (length bs)) bs ∙ ap (λ (x : List ℕ). image_count (length x)) e)
-    ∙ ap (λ (j : ℕ). pile_count (length bs₀) j k) p ∙ ap (pile_count (length bs₀) f₀) q
+count_pile : (bs bs₀ : List ℕ) (v v₀ : Span) → bs ≡ bs₀ → v ≡ v₀ →
+    window_count (length (image_sectors bs)) v.first v.count ≡ pile_count (length bs₀) v₀.first v₀.count
+count_pile bs bs₀ v v₀ e p =
+    ap (λ (j : ℕ). window_count j v.first v.count) (length-sectors_in (image_count (length bs)) bs ∙ ap (λ (x : List ℕ). image_count (length x)) e)
+    ∙ ap (λ (x : Span). pile_count (length bs₀) x.first x.count) p
+
+-- the sectors of the pile, made of the bytes bs₀ and the span v₀
+pub length_pile : (bs bs₀ : List ℕ) (v v₀ : Span) → bs ≡ bs₀ → v ≡ v₀ →
+    length (take (window_count (length (image_sectors bs)) v.first v.count) (drop v.first (image_sectors bs)))
+    ≡ pile_count (length bs₀) v₀.first v₀.count
+length_pile bs bs₀ v v₀ e p = length_window (image_sectors bs) v.first v.count ∙ count_pile bs bs₀ v v₀ e p
 
 ok_err : {u : Unit {0}} {f : Fault} → ◌≡◌ {A = Result (Unit {0}) Fault} (Ok u) (Err f) → ⊥
 ok_err e = let z : ◌≡◌ {A = ℕ} 0 1 = cc in omega arith
@@ -39,9 +42,9 @@ accepted {m = m} {n = n} {b = b} w =
     ]
 
 -- the write was refused
-pub write_refused : {t : Faults} {m m' : Meaning} {s n : ℕ} {b : List ℕ} {f : Fault} → m.condition ≡ steady →
-    length m.sectors ≡ s → Writes t m m' n b (Err f) → ReadsBack s n b (Err f)
-write_refused {m = m} {s = s} {n = n} {f = f} c e w = record {
+pub write_refused : {t : Faults} {m m' : Meaning} {s n : ℕ} {b : List ℕ} {f : Fault} →
+    Writes t m m' n b (Err f) → m.condition ≡ steady → length m.sectors ≡ s → ReadsBack s n b (Err f)
+write_refused {m = m} {s = s} {n = n} {f = f} w c e = record {
   wrong_length = λ ne. let q : f ≡ fault Length Write n = cc (w.wrong_length ne).0 in ap Err q;
   out_of_range = λ l h.
       let h' : length m.sectors ≤ n = omega arith in
@@ -51,9 +54,9 @@ write_refused {m = m} {s = s} {n = n} {f = f} c e w = record {
 }
 
 -- the read was refused, which it never is
-pub read_refused : {t t' : Faults} {m m' m'' : Meaning} {n : ℕ} {b b₀ b' : List ℕ} {u : Unit {0}} {f : Fault} → m.condition ≡ steady →
-    length b₀ ≡ 512 → Writes t m m' n b (Ok u) → Reads t' m' m'' n b₀ b' (Err f) → ⊥
-read_refused {m = m} {m' = m'} {n = n} {b = b} c l₀ w r =
+pub read_refused : {t t' : Faults} {m m' m'' : Meaning} {n : ℕ} {b b₀ b' : List ℕ} {u : Unit {0}} {f : Fault} →
+    Writes t m m' n b (Ok u) → Reads t' m' m'' n b₀ b' (Err f) → m.condition ≡ steady → length b₀ ≡ 512 → ⊥
+read_refused {m = m} {m' = m'} {n = n} {b = b} w r c l₀ =
     let p = accepted w in
     let q = (w.otherwise p.0 p.1).1 in
     let h : n < length m'.sectors =
@@ -61,9 +64,9 @@ read_refused {m = m} {m' = m'} {n = n} {b = b} c l₀ w r =
     subst MayRefuse (ap (λ (x : Meaning). x.condition) q ∙ c) (r.otherwise l₀ h).0
 
 -- both were accepted
-pub read_back : {t t' : Faults} {m m' m'' : Meaning} {s n : ℕ} {b b₀ b' : List ℕ} {u v : Unit {0}} → length m.sectors ≡ s →
-    length b₀ ≡ 512 → Writes t m m' n b (Ok u) → Reads t' m' m'' n b₀ b' (Ok v) → ReadsBack s n b (Ok b')
-read_back {m = m} {m' = m'} {s = s} {n = n} {b = b} e l₀ w r =
+pub read_back : {t t' : Faults} {m m' m'' : Meaning} {s n : ℕ} {b b₀ b' : List ℕ} {u v : Unit {0}} →
+    Writes t m m' n b (Ok u) → Reads t' m' m'' n b₀ b' (Ok v) → length m.sectors ≡ s → length b₀ ≡ 512 → ReadsBack s n b (Ok b')
+read_back {m = m} {m' = m'} {s = s} {n = n} {b = b} w r e l₀ =
     let p = accepted w in
     let q = (w.otherwise p.0 p.1).1 in
     let h : n < length m'.sectors =
@@ -93,16 +96,13 @@ accepted_beneath : (t : Faults) (m m' : Meaning) (n : ℕ) (b : List ℕ) (a r :
 accepted_beneath t m m' n b (Ok u) r c q p = (q, ap (λ (x : Meaning). x.sectors) p.1)
 accepted_beneath t m m' n b (Err f) r c q p = absurd (subst MayRefuse c p.0)
 
--- a write of the pile made of the bytes bs₀, first f₀ and count k₀, which leaves the bytes bs''
-pub written_through : {t t' : Faults} {m m' : Meaning} {g g' : Geometry} (bs bs₀ bs' bs'' : List ℕ) (f f₀ k k₀ : ℕ) {n : ℕ} {b : List ℕ}
-    {r : Result (Unit {0}) Fault} → bs ≡ bs₀ → f ≡ f₀ → k ≡ k₀ → bs'' ≡ bs' → length m.sectors ≡ pile_count (length bs₀) f₀ k₀ →
-    Writes t m m' n b r → WritesBeneath t' (image_of bs g) (image_of bs' g') f k n b r →
-    WritesThrough f₀ (pile_count (length bs₀) f₀ k₀) n b bs₀ bs'' r
-written_through {t' = t'} {m = m} {g = g} {g' = g'} bs bs₀ bs' bs'' f f₀ k k₀ {n = n} {b = b} {r = r} e p q z size w u =
-    let s = pile_count (length bs₀) f₀ k₀ in
-    let count : window_count (length (image_sectors bs)) f k ≡ s =
-    ap (λ (j : ℕ). window_count j f k) (length-sectors_in (image_count (length bs)) bs ∙ ap (λ (x : List ℕ). image_count (length x)) e)
-    ∙ ap (λ (j : ℕ). pile_count (length bs₀) j k) p ∙ ap (pile_count (length bs₀) f₀) q in
+-- a write of the pile made of the bytes bs₀ and the span v₀, which leaves the bytes bs''
+pub written_through : {t t' : Faults} {m m' : Meaning} {g g' : Geometry} (bs bs₀ bs' bs'' : List ℕ) (v v₀ : Span) {n : ℕ} {b : List ℕ}
+    {r : Result (Unit {0}) Fault} → bs ≡ bs₀ → v ≡ v₀ → bs'' ≡ bs' → length m.sectors ≡ pile_count (length bs₀) v₀.first v₀.count →
+    Writes t m m' n b r → WritesBeneath t' (image_of bs g) (image_of bs' g') v.first v.count n b r →
+    WritesThrough v₀.first (pile_count (length bs₀) v₀.first v₀.count) n b bs₀ bs'' r
+written_through {t' = t'} {m = m} {g = g} {g' = g'} bs bs₀ bs' bs'' v v₀ {n = n} {b = b} {r = r} e p z size w u =
+    let count = count_pile bs bs₀ v v₀ e p in
     let same : image_of bs' g' ≡ image_of bs g → image_sectors bs'' ≡ image_sectors bs₀ =
     λ d. ap image_sectors z ∙ ap (λ (x : Meaning). x.sectors) d ∙ ap image_sectors e in
     record {
@@ -111,6 +111,9 @@ written_through {t' = t'} {m = m} {g = g} {g' = g'} bs bs₀ bs' bs'' f f₀ k k
           ((w.out_of_range l (subst (λ (j : ℕ). j ≤ n) (sym size) h)).0, same (u.out_of_range l (subst (λ (j : ℕ). j ≤ n) (sym count) h)));
       otherwise = λ l h.
           let o = u.otherwise l (subst (λ (j : ℕ). n < j) (sym count) h) in
-          let d = accepted_beneath t' (image_of bs g) (image_of bs' g') (f + n) b o.0 r refl o.1 o.2 in
-          (d.0, ap image_sectors z ∙ d.1 ∙ ap (λ (x : Sectors). set x (f + n) b) (ap image_sectors e) ∙ ap (λ (j : ℕ). set (image_sectors bs₀) (j + n) b) p);
+          let d = accepted_beneath t' (image_of bs g) (image_of bs' g') (v.first + n) b o.0 r refl o.1 o.2 in (
+            d.0,
+            ap image_sectors z ∙ d.1 ∙ ap (λ (x : Sectors). set x (v.first + n) b) (ap image_sectors e)
+                ∙ ap (λ (x : Span). set (image_sectors bs₀) (x.first + n) b) p,
+          );
     }

@@ -8,6 +8,15 @@ pub mod window_cache_sparse;
 // A window over an image that is lent.
 pub mod window_lent_image;
 
+use device::Geometry;
+
+// The geometry that the devices are given here, which nothing depends on.
+const GEOMETRY: Geometry = Geometry {
+    cylinders: 1,
+    sectors_per_track: 1,
+    heads: 1,
+};
+
 pub use window_cache_image::{write_and_read, write_through};
 pub use window_cache_sparse::write_to_sparse;
 pub use window_lent_image::write_lent;

@@ -4,28 +4,23 @@ ghost use Rattle.layers.specs.Window.{window_count};
 ghost use Rattle.stores.specs.Sparse.{sparse_count};
 ghost use Rattle.piles.specs.WindowCacheSparse.{WrittenOrFull};
 
+use crate::GEOMETRY;
 use caching::Cache;
-use device::{Fault, Geometry, SectorDevice};
-use layers::Window;
+use device::{Fault, SectorDevice};
+use layers::{Span, Window};
 use stores::{KeptSector, SparseDevice};
 
 // Writes sector n of a window on a sparse card with these places, all of them free.
 pub fn write_to_sparse(
     places: &mut [Option<KeptSector>],
     sectors: u32,
-    first: u32,
-    count: u32,
+    span: Span,
     n: u32,
     bytes: &[u8],
 ) -> Result<(), Fault>
-    ensures { WrittenOrFull (window_count (sparse_count sectors) first count) first n bytes.now result }
+    ensures { WrittenOrFull (window_count (sparse_count sectors) span.first span.count) span.first n bytes.now result }
 {
-    let geometry = Geometry {
-        cylinders: 1,
-        sectors_per_track: 1,
-        heads: 1,
-    };
-    let card = SparseDevice::new(places, sectors, geometry);
-    let mut pile = Window::new(Cache::new(card), first, count);
+    let card = SparseDevice::new(places, sectors, GEOMETRY);
+    let mut pile = Window::new(Cache::new(card), span);
     pile.write(n, bytes)
 }

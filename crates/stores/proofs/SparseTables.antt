@@ -1,10 +1,12 @@
 -- The table of a sparse card: what its places make of the sectors, and what a write does to them.
-use Rattle.std.proofs.Common.{◌≡◌, ℕ, zero, suc, ◌<◌, ◌≤◌, Bool, true, false, cond, eqb, List, [], ◌∷◌, map, length, get_or, set, replicate, Some, None, Option, sym, refl, ap, ◌∙◌, subst, inl, inr, arith}
+use Rattle.std.proofs.Common.{◌≡◌, ℕ, zero, suc, ◌<◌, ◌≤◌, Bool, true, false, cond, eqb, List, [], ◌∷◌, map, length, get_or, set, replicate, Some, None, Option, unwrap_or, sym, refl, ap, ◌∙◌, subst, inl, inr, arith}
 use Rattle.std.proofs.lemmas.Bool.{cases_eq, cases_lt, eqb-true, eqb-false}
 use Rattle.std.proofs.lemmas.List.{length-set, length-map, length-replicate, get_or-set_same, get_or-set_other, get_or_past, get_or-replicate, set-set, set_comm, ext_get_or}
+use Rattle.std.proofs.Math.ListN.{get_or-map}
 use Rattle.device.specs.Meaning.{zeros}
-use Rattle.stores.specs.declared.kept.KeptSector.{KeptSector}
-use Rattle.stores.specs.Sparse.{Places, sparse_sectors, KeptIn, KeptSound, PlaceSound, SparseSound, PlaceFor, Full, Slot, given_back}
+use Rattle.kept.specs.Kept.{Places, kept_bytes, given_back}
+use Rattle.kept.specs.declared.KeptSector.{KeptSector}
+use Rattle.stores.specs.Sparse.{sparse_sectors, KeptIn, KeptSound, PlaceSound, SparseSound, PlaceFor, Full, Slot}
 
 none : (i : ℕ) → i < 0 → ⊥
 none i h = omega arith
@@ -27,41 +29,20 @@ length_sparse s (Some x ∷ xs) = length-set (sparse_sectors s xs) x.sector x.by
 inside : (s n : ℕ) (xs : Places) → n < s → n < length (sparse_sectors s xs)
 inside s n xs h = subst (λ (v : ℕ). n < v) (sym (length_sparse s xs)) h
 
--- a sector that no place keeps
-pub sector_none : (s n : ℕ) (xs : Places) → n < s → ((j : ℕ) → j < length xs → KeptIn (get_or xs j None) n → ⊥) →
-    get_or (sparse_sectors s xs) n [] ≡ zeros 512
-unfolding sparse_sectors
-sector_none s n [] h k = get_or-replicate s n (zeros 512) [] h
-sector_none s n (None ∷ xs) h k = sector_none s n xs h (λ j l. k (suc j) (up l))
-sector_none s n (Some x ∷ xs) h k =
-    get_or-set_other (sparse_sectors s xs) x.sector n x.bytes [] (λ e. k 0 (start (length xs)) (sym e))
-    ∙ sector_none s n xs h (λ j l. k (suc j) (up l))
-
--- a sector that place i is the first to keep
-sector_first : (s n i : ℕ) (xs : Places) (x : KeptSector) → n < s → i < length xs → ((j : ℕ) → j < i → KeptIn (get_or xs j None) n → ⊥) →
-    get_or xs i None ≡ Some x → x.sector ≡ n → get_or (sparse_sectors s xs) n [] ≡ x.bytes
-unfolding sparse_sectors
-sector_first s n i [] x h l k e q = absurd (none i l)
-sector_first s n zero (o ∷ xs) x h l k e q =
-    ap (λ (v : Option KeptSector). get_or (sparse_sectors s (v ∷ xs)) n []) e
-    ∙ ap (λ (v : ℕ). get_or (set (sparse_sectors s xs) v x.bytes) n []) q
+first_kept : (s n : ℕ) (x : KeptSector) (xs : Places) → n < s → get_or (sparse_sectors s xs) n [] ≡ unwrap_or (kept_bytes xs n) (zeros 512) →
+    (t : Bool) → eqb x.sector n ≡ t →
+    get_or (set (sparse_sectors s xs) x.sector x.bytes) n [] ≡ unwrap_or (cond t (Some x.bytes) (kept_bytes xs n)) (zeros 512)
+first_kept s n x xs h e true t =
+    ap (λ (v : ℕ). get_or (set (sparse_sectors s xs) v x.bytes) n []) (eqb-true x.sector n t)
     ∙ get_or-set_same (sparse_sectors s xs) n x.bytes [] (inside s n xs h)
-sector_first s n (suc i) (None ∷ xs) x h l k e q = sector_first s n i xs x h (down l) (λ j m. k (suc j) (up m)) e q
-sector_first s n (suc i) (Some y ∷ xs) x h l k e q =
-    get_or-set_other (sparse_sectors s xs) y.sector n y.bytes [] (λ d. k 0 (start i) (sym d))
-    ∙ sector_first s n i xs x h (down l) (λ j m. k (suc j) (up m)) e q
+first_kept s n x xs h e false t = get_or-set_other (sparse_sectors s xs) x.sector n x.bytes [] (λ d. eqb-false x.sector n t (sym d)) ∙ e
 
-abbrev pub bytes_in : Option KeptSector → List ℕ
-bytes_in (Some x) = x.bytes
-bytes_in None = []
-
-at_some : {P : Type 0} {n : ℕ} (o : Option KeptSector) → KeptIn o n → ((x : KeptSector) → o ≡ Some x → x.sector ≡ n → P) → P
-at_some (Some x) a k = k x refl a
-at_some None a k = absurd a
-
-pub sector_at : (s n i : ℕ) (xs : Places) → n < s → i < length xs → ((j : ℕ) → j < i → KeptIn (get_or xs j None) n → ⊥) →
-    KeptIn (get_or xs i None) n → get_or (sparse_sectors s xs) n [] ≡ bytes_in (get_or xs i None)
-sector_at s n i xs h l k a = at_some (get_or xs i None) a (λ x e q. sector_first s n i xs x h l k e q ∙ sym (ap bytes_in e))
+-- sector n is what the first place that keeps it has, or else zeros
+pub sector_in : (s n : ℕ) (xs : Places) → n < s → get_or (sparse_sectors s xs) n [] ≡ unwrap_or (kept_bytes xs n) (zeros 512)
+unfolding sparse_sectors
+sector_in s n [] h = get_or-replicate s n (zeros 512) [] h
+sector_in s n (None ∷ xs) h = sector_in s n xs h
+sector_in s n (Some x ∷ xs) h = first_kept s n x xs h (sector_in s n xs h) (eqb x.sector n) refl
 
 -- what is true of zeros and of each kept sector is true of each sector
 pub sector_each : (P : List ℕ → Type 0) (s k : ℕ) (xs : Places) → k < s → P (zeros 512) → ((x : KeptSector) → KeptSound s x → P x.bytes) →
@@ -140,11 +121,6 @@ sound_free k s h = record {
   once = λ i j n p q. absurd (subst (λ (o : Option KeptSector). KeptIn o n) (free k i) p);
 }
 
-get_or_given_back : (n i : ℕ) (xs : Places) → get_or (map (given_back n) xs) i None ≡ given_back n (get_or xs i None)
-get_or_given_back n i [] = refl
-get_or_given_back n zero (o ∷ xs) = refl
-get_or_given_back n (suc i) (o ∷ xs) = get_or_given_back n i xs
-
 back_sound : (s n : ℕ) (o : Option KeptSector) → PlaceSound s o → PlaceSound s (given_back n o)
 back_sound s n None p = p
 back_sound s n (Some x) p = back (eqb x.sector n)
@@ -164,10 +140,10 @@ back_kept n k (Some x) p = back (eqb x.sector n) p
 pub sound_given_back : (s n : ℕ) (xs : Places) → SparseSound xs s → SparseSound (map (given_back n) xs) s
 sound_given_back s n xs p =
     let kept : (i k : ℕ) → KeptIn (get_or (map (given_back n) xs) i None) k → KeptIn (get_or xs i None) k =
-    λ i k q. back_kept n k (get_or xs i None) (subst (λ (o : Option KeptSector). KeptIn o k) (get_or_given_back n i xs) q) in
+    λ i k q. back_kept n k (get_or xs i None) (subst (λ (o : Option KeptSector). KeptIn o k) (get_or-map (given_back n) xs i None) q) in
     record {
       few = p.few;
-      each = λ i. subst (PlaceSound s) (sym (get_or_given_back n i xs)) (back_sound s n (get_or xs i None) (p.each i));
+      each = λ i. subst (PlaceSound s) (sym (get_or-map (given_back n) xs i None)) (back_sound s n (get_or xs i None) (p.each i));
       once = λ i j k q r. p.once i j k (kept i k q) (kept j k r);
     }
 
@@ -253,10 +229,3 @@ no_place (Some x) n p q r = q (p x.sector refl)
 
 pub not_full : (xs : Places) (n i : ℕ) → PlaceFor xs n i → Full xs n → ⊥
 not_full xs n i p f = no_place (get_or xs i None) n p.no_other (f.not_kept i) (f.none_free i p.there)
-
--- the whole table is gone through, and each place of sector n given back
-pub given_back_all : (xs ys : Places) (n e : ℕ) → length ys ≡ length xs → length xs ≤ e →
-    ((j : ℕ) → j < e → get_or ys j None ≡ given_back n (get_or xs j None)) → ys ≡ map (given_back n) xs
-given_back_all xs ys n e l m h =
-    ext_get_or None ys (map (given_back n) xs) (l ∙ sym (length-map xs (given_back n)))
-    (λ j k. h j (under (subst (λ (v : ℕ). j < v) l k) m) ∙ sym (get_or_given_back n j xs))

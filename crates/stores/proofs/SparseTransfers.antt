@@ -10,7 +10,8 @@ use Rattle.device.specs.declared.faults.Geometry.{Geometry}
 use Rattle.device.specs.declared.faults.Cause.TheVariants.{Device}
 use Rattle.device.specs.declared.faults.Act.TheVariants.{Read, Write}
 use Rattle.device.proofs.Zeros.{length-zeros, get_or-zeros}
-use Rattle.stores.specs.Sparse.{Places, sparse_count, sparse_sectors, sparse_of, sparse_faults, SparseSound, Full, Begins}
+use Rattle.kept.specs.Kept.{Places}
+use Rattle.stores.specs.Sparse.{sparse_count, sparse_sectors, sparse_of, sparse_faults, SparseSound, Full, Begins}
 use Rattle.stores.proofs.SparseTables.{length_sparse, sector_each}
 
 pub count_few : (n : ℕ) → sparse_count n ≤ 268435456

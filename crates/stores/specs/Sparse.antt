@@ -7,10 +7,10 @@ use Rattle.device.specs.declared.faults.Fault.{Fault}
 use Rattle.device.specs.declared.faults.Geometry.{Geometry}
 use Rattle.device.specs.declared.faults.Cause.TheVariants.{Device}
 use Rattle.device.specs.declared.faults.Act.TheVariants.{Write}
-use Rattle.stores.specs.declared.kept.KeptSector.{KeptSector}
-
-abbrev pub Places : Type 0
-Places = List (Option KeptSector)
+use Rattle.device.specs.declared.sector_device.SectorDevice.{Ghosts}
+use Rattle.kept.specs.Kept.{Places, given_back}
+use Rattle.kept.specs.declared.KeptSector.{KeptSector}
+use Rattle.stores.specs.declared.sparse.SparseDevice.{SparseDevice}
 
 -- a lawful size
 abbrev pub SparseSize : ℕ → Type 0
@@ -55,6 +55,14 @@ pub record SparseSound (xs : Places) (s : ℕ) : Type 0 where
   pub each : (i : ℕ) → PlaceSound s (slice_index_or xs i None)
   pub once : (i j n : ℕ) → KeptIn (slice_index_or xs i None) n → KeptIn (slice_index_or xs j None) n → i ≡ j
 
+-- the card as a make of device
+abbrev pub sparse_card : Ghosts SparseDevice
+sparse_card = record {
+  meaning = λ d. sparse_of d.places.now d.size d.geometry d.failed;
+  sound = λ d. SparseSound d.places.now d.size;
+  faults = λ d. sparse_faults;
+}
+
 -- place i may take sector n: it is the first that keeps n or, where none keeps n, it is free
 pub record PlaceFor (xs : Places) (n i : ℕ) : Type 0 where
   pub there : i < length xs
@@ -70,11 +78,6 @@ pub record Full (xs : Places) (n : ℕ) : Type 0 where
 abbrev pub Slot : Places → ℕ → Option ℕ → Type 0
 Slot xs n (Some i) = PlaceFor xs n i
 Slot xs n None = Full xs n
-
--- a place once sector n is given back
-abbrev pub given_back : ℕ → Option KeptSector → Option KeptSector
-given_back n None = None
-given_back n (Some x) = cond (x.sector == n) None (Some x)
 
 -- the table ys after bytes b are written to sector n: zeros give back every place of n, other bytes take one place
 pub record Stored (xs ys : Places) (n : ℕ) (b : List ℕ) : Type 0 where

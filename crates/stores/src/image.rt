@@ -51,7 +51,7 @@ impl<'a> ImageDevice<'a> {
     pub fn into_bytes(self) -> &'a mut [u8]
         ensures { result.now ≡ self.entry.bytes.now }
     {
-        let bytes = self.bytes;
+        let ImageDevice { bytes, .. } = self;
         bytes
     }
 

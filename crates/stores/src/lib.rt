@@ -3,8 +3,6 @@
 
 // Every sector in bytes that the caller lends.
 pub mod image;
-// A sector in a sparse card's table.
-pub mod kept;
 // Some sectors in a table that the caller lends, the others zeros.
 pub mod sparse;
 

@@ -1,13 +1,12 @@
 // The sparse card: some sectors in a table of places that the caller lends, the others zeros. It is well until a
 // write finds no place for its sector, and from then on it refuses everything.
-ghost use Rattle.std.specs.Prelude.{◌≡◌, ◌<◌, true, false, [], map, length, replicate, None, Ok, Decides, slice_index_or};
-ghost use Rattle.device.specs.Faults.{Within};
+ghost use Rattle.std.specs.Prelude.{◌≡◌, ◌<◌, true, false, [], length, replicate, None, Ok, Decides, slice_index_or};
+ghost use Rattle.device.specs.Calls.{Stays, KeepsFaults, ReadsSector, WritesSector};
 ghost use Rattle.device.specs.Meaning.{zeros, well};
-ghost use Rattle.device.specs.Transfers.{Reads, Writes};
-ghost use Rattle.stores.specs.Sparse.{SparseSize, sparse_count, sparse_sectors, sparse_of, sparse_faults, SparseSound, given_back, Slot, TableAfter, Begins};
+ghost use Rattle.stores.specs.Sparse.{SparseSize, sparse_count, sparse_sectors, sparse_of, sparse_card, SparseSound, Slot, TableAfter, Begins};
 
-use crate::kept::KeptSector;
 use device::{Act, Cause, Fault, Geometry, SectorDevice, check_transfer, zero_sector};
+use kept::{KeptSector, find, give_back};
 
 // The table is the caller's: as many sectors that are not all zero can be kept as it has places.
 #[derive(Drop)]
@@ -40,19 +39,6 @@ fn is_zero(buf: &[u8]) -> bool
     buf == zero.as_slice()
 }
 
-// Gives back every place that keeps sector n.
-fn give_back(places: &mut [Option<KeptSector>], n: u32)
-    ensures { places.new ≡ map (given_back n) places.old }
-{
-    for i in 0..places.len() {
-        if let Some(kept) = places[i] {
-            if kept.sector == n {
-                places[i] = None;
-            }
-        }
-    }
-}
-
 impl<'a> SparseDevice<'a> {
     // A card of so many sectors, all zero, with every place free; of no sectors where so many are not lawful.
     pub fn new(
@@ -80,7 +66,7 @@ impl<'a> SparseDevice<'a> {
     pub fn into_places(self) -> &'a mut [Option<KeptSector>]
         ensures { result.now ≡ self.entry.places.now }
     {
-        let places = self.places;
+        let SparseDevice { places, .. } = self;
         places
     }
 
@@ -89,15 +75,10 @@ impl<'a> SparseDevice<'a> {
         requires { (length buf.old ≡ 512) × (n < self.now.size) }
         ensures { buf.new ≡ slice_index_or (sparse_sectors self.now.size self.now.places.now) n [] }
     {
-        for i in 0..self.places.len() {
-            if let Some(kept) = self.places[i] {
-                if kept.sector == n {
-                    buf.copy_from_slice(&kept.bytes);
-                    return;
-                }
-            }
+        match find(self.places, n) {
+            Some(bytes) => buf.copy_from_slice(bytes),
+            None => buf.fill(0),
         }
-        buf.fill(0);
     }
 
     // The place that sector n is to take.
@@ -105,13 +86,10 @@ impl<'a> SparseDevice<'a> {
         ensures { Slot self.now.places.now n result }
     {
         let mut free = None;
-        for i in 0..self.places.len() {
-            match self.places[i] {
-                Some(kept) => {
-                    if kept.sector == n {
-                        return Some(i);
-                    }
-                }
+        for (i, place) in self.places.iter().enumerate() {
+            match place {
+                Some(kept) if kept.sector == n => return Some(i),
+                Some(_) => {}
                 None => free = Some(i),
             }
         }
@@ -120,11 +98,11 @@ impl<'a> SparseDevice<'a> {
 }
 
 impl<'a> SectorDevice for SparseDevice<'a> {
-    ghost meaning = { λ d. sparse_of d.places.now d.size d.geometry d.failed };
+    ghost meaning = { λ d. sparse_card.meaning d };
 
-    ghost sound = { λ d. SparseSound d.places.now d.size };
+    ghost sound = { λ d. sparse_card.sound d };
 
-    ghost faults = { λ d. sparse_faults };
+    ghost faults = { λ d. sparse_card.faults d };
 
     fn size(&self) -> u32 {
         self.size
@@ -136,9 +114,9 @@ impl<'a> SectorDevice for SparseDevice<'a> {
 
     // A card that is well accepts every read of a sector that is there, and no read changes it.
     fn read(&mut self, n: u32, buf: &mut [u8]) -> Result<(), Fault>
-        ensures stays { SparseSound self.old.places.now self.old.size → SparseSound self.new.places.now self.new.size }
-        ensures faults { SparseSound self.old.places.now self.old.size → Within sparse_faults sparse_faults }
-        ensures reads { SparseSound self.old.places.now self.old.size → Reads sparse_faults (sparse_of self.old.places.now self.old.size self.old.geometry self.old.failed) (sparse_of self.new.places.now self.new.size self.new.geometry self.new.failed) n buf.old buf.new result }
+        ensures stays { Stays sparse_card self.old self.new }
+        ensures faults { KeepsFaults sparse_card self.old self.new }
+        ensures reads { ReadsSector sparse_card self.old self.new n buf.old buf.new result }
         ensures accepted { self.old.failed ≡ false → length buf.old ≡ 512 → n < self.old.size → result ≡ Ok tt }
         ensures unchanged { self.new ≡ self.old }
     {
@@ -152,9 +130,9 @@ impl<'a> SectorDevice for SparseDevice<'a> {
 
     // Zeros give back every place of the sector, other bytes take one; where there is none, refusals begin.
     fn write(&mut self, n: u32, buf: &[u8]) -> Result<(), Fault>
-        ensures stays { SparseSound self.old.places.now self.old.size → SparseSound self.new.places.now self.new.size }
-        ensures faults { SparseSound self.old.places.now self.old.size → Within sparse_faults sparse_faults }
-        ensures writes { SparseSound self.old.places.now self.old.size → Writes sparse_faults (sparse_of self.old.places.now self.old.size self.old.geometry self.old.failed) (sparse_of self.new.places.now self.new.size self.new.geometry self.new.failed) n buf.now result }
+        ensures stays { Stays sparse_card self.old self.new }
+        ensures faults { KeepsFaults sparse_card self.old self.new }
+        ensures writes { WritesSector sparse_card self.old self.new n buf.now result }
         ensures begins { Begins self.old.places.now self.old.size n buf.now self.old.failed self.new.failed result }
         ensures table { TableAfter self.old.places.now self.new.places.now n buf.now result }
     {
@@ -168,9 +146,10 @@ impl<'a> SectorDevice for SparseDevice<'a> {
         }
         match self.place_for(n) {
             Some(i) => {
-                let mut bytes = zero_sector();
-                bytes.copy_from_slice(buf);
-                self.places[i] = Some(KeptSector { sector: n, bytes });
+                self.places[i] = Some(KeptSector {
+                    sector: n,
+                    bytes: buf.try_into().unwrap(),
+                });
                 Ok(())
             }
             None => {

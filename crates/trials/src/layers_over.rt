@@ -2,8 +2,14 @@
 #[cfg(test)]
 mod tests {
     use device::{Act, Cause, Fault};
+    use layers::Span;
     use piles::{write_and_read, write_through, write_to_sparse};
     use std::test::Fail;
+
+    const SPAN: Span = Span {
+        first: 100,
+        count: 8,
+    };
 
     #[test]
     fn refused_two_layers_down(rt: HostRuntime) {
@@ -15,11 +21,11 @@ mod tests {
         };
         let mut places = [];
         assert_eq!(rt;
-            write_to_sparse(&mut places, 200, 100, 8, 5, &[1; 512]),
+            write_to_sparse(&mut places, 200, SPAN, 5, &[1; 512]),
             Err(want)
         );
         assert_eq!(rt;
-            write_to_sparse(&mut places, 200, 100, 8, 5, &[0; 512]),
+            write_to_sparse(&mut places, 200, SPAN, 5, &[0; 512]),
             Ok(())
         );
     }
@@ -29,16 +35,16 @@ mod tests {
         let want = Fault::new(Cause::Range, Act::Write, 8);
         let mut places = [];
         assert_eq!(rt;
-            write_to_sparse(&mut places, 200, 100, 8, 8, &[1; 512]),
+            write_to_sparse(&mut places, 200, SPAN, 8, &[1; 512]),
             Err(want)
         );
         assert_eq!(rt;
-            write_to_sparse(&mut places, 107, 100, 8, 8, &[1; 512]),
+            write_to_sparse(&mut places, 107, SPAN, 8, &[1; 512]),
             Err(want)
         );
         let short = Fault::new(Cause::Length, Act::Write, 8);
         assert_eq!(rt;
-            write_to_sparse(&mut places, 200, 100, 8, 8, &[1; 511]),
+            write_to_sparse(&mut places, 200, SPAN, 8, &[1; 511]),
             Err(short)
         );
     }
@@ -46,8 +52,8 @@ mod tests {
     #[test]
     fn written_through(rt: HostRuntime) -> Result<(), Fail> {
         let mut bytes = vec![in rt.alloc(); 0u8; 5_120]?;
-        assert!(rt; write_and_read(&mut bytes, 2, 4, 3, &[7; 512]).is_ok());
-        let (answer, bytes) = write_through(&mut bytes, 2, 4, 1, &[9; 512]);
+        assert!(rt; write_and_read(&mut bytes, Span { first: 2, count: 4 }, 3, &[7; 512]).is_ok());
+        let (answer, bytes) = write_through(&mut bytes, Span { first: 2, count: 4 }, 1, &[9; 512]);
         assert_eq!(rt; answer, Ok(()));
         assert_eq!(rt; bytes.get(512 * 3).copied(), Some(9));
         assert_eq!(rt; bytes.get(512 * 4).copied(), Some(0));

@@ -1,8 +1,8 @@
-use Rattle.std.proofs.Common.{◌≡◌, sym, ap, ◌∙◌, subst}
+use Rattle.std.proofs.Common.{◌≡◌, sym, refl, ap, ◌∙◌, subst}
 use Rattle.device.specs.Meaning.{Meaning}
 use Rattle.caching.specs.Cache.{NothingKept}
 use Rattle.stores.specs.Sparse.{SparseSound, sparse_sectors}
-use Rattle.piles.proofs.Below.{written_or_full, length-zero_window}
+use Rattle.piles.proofs.Below.{written_or_full}
 use Rattle.piles.proofs.window_cache_sparse.write_to_sparse.Goals as goal
 
 pub returns : goal.returns
@@ -15,5 +15,4 @@ returns c =
     let sound : SparseSound p.beneath.beneath.places.now p.beneath.beneath.size =
     subst (λ x. SparseSound x.places.now x.size) (sym same) c.new-card.ensures.sound in
     let sectors = ap (λ x. sparse_sectors x.size x.places.now) same ∙ ap (λ (x : Meaning). x.sectors) c.new-card.ensures.meaning in
-    let size = length-zero_window _ _ _ _ _ _ sectors made.first made.count in
-    written_or_full _ _ _ _ _ _ made.first size (c.write.ensures.writes (sound, λ n b h. absurd (none n b h)))
+    written_or_full _ _ _ _ _ _ _ sectors made.span refl (c.write.ensures.writes (sound, λ n b h. absurd (none n b h)))

@@ -6,7 +6,7 @@ pub returns : goal.returns
 returns c =
     let made = c.new-window.ensures in
     let bytes = ap (λ x. x.now.bytes.now) made.beneath in
-    let size = length_pile _ _ _ _ _ _ bytes made.first made.count in
+    let size = length_pile _ _ _ _ bytes made.span in
     let back = ap (λ x. x.now.bytes.now) c.into_beneath.ensures in
     let w = c.write-answer.ensures in
-    written_through _ _ _ _ _ _ _ _ bytes made.first made.count back size (w.writes tt) (w.beneath tt)
+    written_through _ _ _ _ _ _ bytes made.span back size (w.writes tt) (w.beneath tt)

@@ -1,6 +1,5 @@
-use Rattle.std.proofs.Common.{ℕ, ◌<◌, Bool, sym, ◌∙◌, subst}
+use Rattle.std.proofs.Common.{ℕ, ◌<◌, sym, ◌∙◌, subst}
 use Rattle.device.proofs.Checks.{passed, raised_within}
-use Rattle.caching.specs.Cache.{Followed}
 use Rattle.caching.proofs.Kept.{true_after_writes, kept_after}
 use Rattle.layers.proofs.Passed.{passed_writes}
 use Rattle.caching.proofs.cache.CacheSectorDevice.write.Goals as goal
@@ -11,7 +10,7 @@ returns g c =
     let a = c.write-answer.result in
     let e = c.write-answer.ensures in
     let p = passed c.in_ok-check_transfer.ensures in
-    let followed = subst (λ (v : Bool). Followed xs c.follow.new.self.places c.args.n c.args.buf.now v) c.is_ok.ensures.value c.follow.ensures in
+    let followed = c.follow.ensures in
     record {
       stays = λ s.
           let h = subst (λ (j : ℕ). c.args.n < j) (c.size.ensures.value s.0) p.1 in

@@ -13,10 +13,9 @@ returns-in_err-check_transfer g c =
       stays = λ s. s;
       faults = λ s a n f q. q;
       reads = λ s.
-          rw (p.1, p.2) (refused_read (c.count_now.ensures.value s ∙ sym (length_window m.sectors d.first d.count)) c.in_err-check_transfer.ensures);
+          rw (p.1, p.2) (refused_read (c.count_now.ensures.value s ∙ sym (length_window m.sectors d.span.first d.span.count)) c.in_err-check_transfer.ensures);
       beneath = λ s. none_read_beneath (c.count_now.ensures.value s) c.in_err-check_transfer.ensures;
-      first = refl;
-      count = refl;
+      span = refl;
     }
 
 pub returns : goal.returns
@@ -25,13 +24,12 @@ returns g c =
     let p = passed c.in_ok-check_transfer.ensures in
     record {
       stays = λ s. c.read.ensures.stays s;
-      faults = λ s. raised_within (λ n. d.first + n) (c.read.ensures.faults s);
+      faults = λ s. raised_within (λ n. d.span.first + n) (c.read.ensures.faults s);
       reads = λ s.
           let h = subst (λ (j : ℕ). c.args.n < j) (c.count_now.ensures.value s) p.1 in
-          window_reads d.first d.count c.args.n c.passed_on.ensures h p.0 (c.read.ensures.reads s);
+          window_reads d.span.first d.span.count c.args.n c.passed_on.ensures h p.0 (c.read.ensures.reads s);
       beneath = λ s.
           let h = subst (λ (j : ℕ). c.args.n < j) (c.count_now.ensures.value s) p.1 in
-          read_beneath d.first d.count c.args.n c.passed_on.ensures h p.0 (c.read.ensures.reads s);
-      first = refl;
-      count = refl;
+          read_beneath d.span.first d.span.count c.args.n c.passed_on.ensures h p.0 (c.read.ensures.reads s);
+      span = refl;
     }

@@ -1,21 +1,18 @@
-use Rattle.std.proofs.Common.{◌≡◌, ℕ, length, get_or, replicate, None, sym, ap, ◌∙◌, arith, rules}
+use Rattle.std.proofs.Common.{ℕ, List, replicate, Option, unwrap_or, sym, ap, ◌∙◌}
 use Rattle.device.specs.Meaning.{zeros}
-use Rattle.stores.specs.Sparse.{KeptIn}
-use Rattle.stores.proofs.SparseTables.{bytes_in, sector_at, sector_none}
+use Rattle.stores.proofs.SparseTables.{sector_in}
 use Rattle.stores.proofs.sparse.SparseDevice.copy_sector.Goals as goal
 
-pub returns : goal.returns
-unfolding zeros
-returns c =
+pub returns-in-Some : goal.returns-in-Some
+returns-in-Some c =
     let d = c.args.self.now in
-    let e : length c.loop-i.buf ≡ 512 = search rules in
-    c.fill.ensures.after (λ y h. h) ∙ ap (λ (n : ℕ). replicate n 0) e
-    ∙ sym (sector_none d.size c.args.n d.places.now c.requires.1 (λ j l. c.loop-i.invariant j (omega (arith, l))))
+    c.copy_from_slice.ensures.after ∙ ap (λ (o : Option (List ℕ)). unwrap_or o (zeros 512)) c.in-Some.ensures
+    ∙ sym (sector_in d.size c.args.n d.places.now c.requires.1)
 
-pub returns-then-kept-n : goal.returns-then-kept-n
-returns-then-kept-n c =
+pub returns-in-None : goal.returns-in-None
+unfolding zeros
+returns-in-None c =
     let d = c.args.self.now in
-    let i = c.loop-i.i in
-    let a : KeptIn (get_or d.places.now i None) c.args.n = search rules in
-    let e : c.copy_from_slice.new.self ≡ bytes_in (get_or d.places.now i None) = search rules in
-    e ∙ sym (sector_at d.size c.args.n i d.places.now c.requires.1 c.loop-i-test.true c.loop-i.invariant a)
+    c.fill.ensures.after (λ y h. h) ∙ ap (λ (k : ℕ). replicate k 0) c.requires.0
+    ∙ ap (λ (o : Option (List ℕ)). unwrap_or o (zeros 512)) c.in-None.ensures
+    ∙ sym (sector_in d.size c.args.n d.places.now c.requires.1)

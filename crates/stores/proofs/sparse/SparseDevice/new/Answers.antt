@@ -1,6 +1,7 @@
 use Rattle.std.proofs.Common.{◌≡◌, ℕ, ◌≤◌, length, replicate, None, sym, refl, ap, ◌∙◌, subst, rules}
 use Rattle.device.specs.Meaning.{Sectors, zeros, well}
-use Rattle.stores.specs.Sparse.{Places, sparse_sectors, SparseSound}
+use Rattle.kept.specs.Kept.{Places}
+use Rattle.stores.specs.Sparse.{sparse_sectors, SparseSound}
 use Rattle.stores.proofs.SparseTables.{sectors_free, sound_free}
 use Rattle.stores.proofs.SparseTransfers.{count_few}
 use Rattle.stores.proofs.sparse.SparseDevice.new.Goals as goal

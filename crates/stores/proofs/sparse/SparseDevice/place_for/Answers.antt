@@ -7,8 +7,8 @@ pub returns : goal.returns
 returns c =
     slot_of c.args.self.now.places.now c.args.n c.loop-i.i c.loop-i.free c.loop-i-test.false (omega arith) c.loop-i.invariant.0 c.loop-i.invariant.1
 
-pub returns-then-kept-n : goal.returns-then-kept-n
-returns-then-kept-n c =
+pub returns-in-Some : goal.returns-in-Some
+returns-in-Some c =
     let xs = c.args.self.now.places.now in
     let a : KeptIn (get_or xs c.loop-i.i None) c.args.n = search rules in
     slot_kept xs c.args.n c.loop-i.i c.loop-i-test.true c.loop-i.invariant.0 a

@@ -1,9 +1,10 @@
-use Rattle.std.proofs.Common.{◌≡◌, ℕ, ◌≢◌, List, set, Some, sym, refl, ap, ◌∙◌, subst}
+use Rattle.std.proofs.Common.{◌≡◌, ℕ, ◌≢◌, List, set, Some, sym, refl, ap, ◌∙◌, subst, rules}
 use Rattle.std.proofs.lemmas.Result.{err_from_is_err_and}
 use Rattle.std.proofs.lemmas.Bool.{both_ways}
 use Rattle.device.specs.Meaning.{zeros}
 use Rattle.device.proofs.Checks.{passed, refused_write}
-use Rattle.stores.specs.Sparse.{Places, sparse_sectors, SparseSound}
+use Rattle.kept.specs.Kept.{Places}
+use Rattle.stores.specs.Sparse.{sparse_sectors, SparseSound}
 use Rattle.stores.proofs.SparseTables.{length_sparse, sectors_given_back, sound_given_back, sectors_placed, sound_placed, not_full}
 use Rattle.stores.proofs.SparseTransfers.{sparse_write, sparse_write_refused, begins_elsewhere, begins_unchecked, begins_not, begins_here}
 use Rattle.stores.proofs.sparse.SparseDeviceSectorDevice.write.Goals as goal
@@ -64,8 +65,9 @@ returns-in-Some c =
     let p = passed c.in_ok-check_transfer.ensures in
     let o : b ≢ zeros 512 = λ z. both_ways c.is_zero.result c.if-is_zero.false (c.is_zero.ensures.1 z) in
     let place = c.in-Some.ensures in
-    let e : set xs i (Some (record { sector = n; bytes = c.copy_from_slice.new.self })) ≡ set xs i (Some (record { sector = n; bytes = b })) =
-    ap (λ (v : List ℕ). set xs i (Some (record { sector = n; bytes = v }))) c.copy_from_slice.ensures.after in
+    let own : c.unwrap.result ≡ b = search rules in
+    let e : set xs i (Some (record { sector = n; bytes = c.unwrap.result })) ≡ set xs i (Some (record { sector = n; bytes = b })) =
+    ap (λ (v : List ℕ). set xs i (Some (record { sector = n; bytes = v }))) own in
     record {
       stays = λ s.
           subst (λ (v : Places). SparseSound v d.size) (sym e)
