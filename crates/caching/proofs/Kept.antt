@@ -9,7 +9,7 @@ use Rattle.device.specs.Meaning.{Meaning, sector}
 use Rattle.device.specs.Transfers.{Reads, Writes}
 use Rattle.device.specs.declared.faults.Fault.{Fault}
 use Rattle.layers.specs.Layer.{passed_answer}
-use Rattle.caching.specs.Cache.{InPlace, Kept, KeptToo, Followed, TrueOf}
+use Rattle.caching.specs.Keeping.{InPlace, Kept, KeptToo, Followed, TrueOf}
 use Rattle.kept.specs.Kept.{Places, kept_bytes, given_back}
 use Rattle.kept.specs.declared.KeptSector.{KeptSector}
 

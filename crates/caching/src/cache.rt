@@ -1,8 +1,7 @@
 // The cache: up to four sectors of the device beneath, kept as they were last read or written. Every write goes
 // through to the device.
 ghost use Rattle.std.specs.Prelude.{◌≡◌, ℕ, List, length, Ok};
-ghost use Rattle.device.specs.Calls.{Stays, KeepsFaults, ReadsSector, WritesSector};
-ghost use Rattle.caching.specs.Cache.{cache_layer, Kept, NothingKept, KeptToo, Followed};
+ghost use Rattle.caching.specs.Keeping.{Kept, NothingKept, KeptToo, Followed, TrueOf, true_of-prop};
 
 use device::{Act, Fault, Geometry, SectorDevice, check_transfer, zero_sector};
 use kept::{KeptSector, find, give_back};
@@ -56,6 +55,7 @@ impl Entries {
 pub struct Cache<D: SectorDevice> {
     beneath: D,
     entries: Entries,
+    ghost true_of: { TrueOf (D.SectorDevice.meaning beneath) entries.places } by { true_of-prop (D.SectorDevice.meaning beneath) entries.places },
 }
 
 impl<D: SectorDevice> Cache<D> {
@@ -63,7 +63,6 @@ impl<D: SectorDevice> Cache<D> {
     pub fn new(beneath: D) -> Cache<D>
         ensures beneath { result.beneath ≡ beneath }
         ensures entries { NothingKept result.entries.places }
-        ensures sound { D.SectorDevice.sound beneath → (cache_layer D.SectorDevice).sound result }
     {
         Cache {
             beneath,
@@ -81,9 +80,10 @@ impl<D: SectorDevice> Cache<D> {
 }
 
 impl<D: SectorDevice> SectorDevice for Cache<D> {
-    ghost meaning = { λ d. (cache_layer D.SectorDevice).meaning d };
+    ghost use Rattle.device.specs.Calls.{KeepsFaults, ReadsSector, WritesSector};
+    ghost use Rattle.caching.specs.Cache.{cache_layer};
 
-    ghost sound = { λ d. (cache_layer D.SectorDevice).sound d };
+    ghost meaning = { λ d. (cache_layer D.SectorDevice).meaning d };
 
     ghost faults = { λ d. (cache_layer D.SectorDevice).faults d };
 
@@ -96,7 +96,6 @@ impl<D: SectorDevice> SectorDevice for Cache<D> {
     }
 
     fn read(&mut self, n: u32, buf: &mut [u8]) -> Result<(), Fault>
-        ensures stays { Stays (cache_layer D.SectorDevice) self.old self.new }
         ensures faults { KeepsFaults (cache_layer D.SectorDevice) self.old self.new }
         ensures reads { ReadsSector (cache_layer D.SectorDevice) self.old self.new n buf.old buf.new result }
         ensures untouched { (b : List ℕ) → Kept self.old.entries.places n b → self.new.beneath ≡ self.old.beneath }
@@ -113,7 +112,6 @@ impl<D: SectorDevice> SectorDevice for Cache<D> {
     }
 
     fn write(&mut self, n: u32, buf: &[u8]) -> Result<(), Fault>
-        ensures stays { Stays (cache_layer D.SectorDevice) self.old self.new }
         ensures faults { KeepsFaults (cache_layer D.SectorDevice) self.old self.new }
         ensures writes { WritesSector (cache_layer D.SectorDevice) self.old self.new n buf.now result }
         ensures keeps { result ≡ Ok tt → Kept self.new.entries.places n buf.now }

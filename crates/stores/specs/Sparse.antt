@@ -1,16 +1,15 @@
 -- The sparse card: some sectors in a table of places that the caller lends, the others zeros. In all: xs is the table,
 -- s the number of sectors, n a sector.
 use Rattle.std.specs.Prelude.{◌≡◌, ℕ, ◌<◌, ◌≤◌, Bool, true, false, cond, ◌≢◌, List, [], ◌∷◌, map, length, replicate, Some, None, Ok, Err, Option, Result, ◌==◌, nat_le, slice_index_or, slice_set}
+use Rattle.std.specs.Coded.{Coded-set, coded_ℕ, Unit-prop, le_prop}
 use Rattle.device.specs.Faults.{Faults, fault}
 use Rattle.device.specs.Meaning.{Meaning, Sectors, Bytes, zeros, well, failed}
 use Rattle.device.specs.declared.faults.Fault.{Fault}
 use Rattle.device.specs.declared.faults.Geometry.{Geometry}
 use Rattle.device.specs.declared.faults.Cause.TheVariants.{Device}
 use Rattle.device.specs.declared.faults.Act.TheVariants.{Write}
-use Rattle.device.specs.declared.sector_device.SectorDevice.{Ghosts}
 use Rattle.kept.specs.Kept.{Places, given_back}
 use Rattle.kept.specs.declared.KeptSector.{KeptSector}
-use Rattle.stores.specs.declared.sparse.SparseDevice.{SparseDevice}
 
 -- a lawful size
 abbrev pub SparseSize : ℕ → Type 0
@@ -55,12 +54,27 @@ pub record SparseSound (xs : Places) (s : ℕ) : Type 0 where
   pub each : (i : ℕ) → PlaceSound s (slice_index_or xs i None)
   pub once : (i j n : ℕ) → KeptIn (slice_index_or xs i None) n → KeptIn (slice_index_or xs j None) n → i ≡ j
 
--- the card as a make of device
-abbrev pub sparse_card : Ghosts SparseDevice
-sparse_card = record {
-  meaning = λ d. sparse_of d.places.now d.size d.geometry d.failed;
-  sound = λ d. SparseSound d.places.now d.size;
-  faults = λ d. sparse_faults;
+never-prop : IsProp ⊥
+never-prop x y = absurd x
+
+kept_sound-prop : (s : ℕ) (x : KeptSector) → IsProp (KeptSound s x)
+kept_sound-prop s x p q = λ i. record {
+  there = le_prop p.there q.there i;
+  whole = Coded-set coded_ℕ (length x.bytes) 512 p.whole q.whole i;
+  bytes = λ k. le_prop (p.bytes k) (q.bytes k) i;
+  needed = λ e. never-prop (p.needed e) (q.needed e) i;
+}
+
+place_sound-prop : (s : ℕ) (o : Option KeptSector) → IsProp (PlaceSound s o)
+place_sound-prop s (Some x) = kept_sound-prop s x
+place_sound-prop s None = Unit-prop
+
+-- there is at most one proof of it
+pub sparse_sound-prop : (xs : Places) (s : ℕ) → IsProp (SparseSound xs s)
+sparse_sound-prop xs s p q = λ i. record {
+  few = le_prop p.few q.few i;
+  each = λ k. place_sound-prop s (slice_index_or xs k None) (p.each k) (q.each k) i;
+  once = λ k j n a b. Coded-set coded_ℕ k j (p.once k j n a b) (q.once k j n a b) i;
 }
 
 -- place i may take sector n: it is the first that keeps n or, where none keeps n, it is free

@@ -1,9 +1,8 @@
 // The sparse card: some sectors in a table of places that the caller lends, the others zeros. It is well until a
 // write finds no place for its sector, and from then on it refuses everything.
 ghost use Rattle.std.specs.Prelude.{◌≡◌, ◌<◌, true, false, [], length, replicate, None, Ok, Decides, slice_index_or};
-ghost use Rattle.device.specs.Calls.{Stays, KeepsFaults, ReadsSector, WritesSector};
 ghost use Rattle.device.specs.Meaning.{zeros, well};
-ghost use Rattle.stores.specs.Sparse.{SparseSize, sparse_count, sparse_sectors, sparse_of, sparse_card, SparseSound, Slot, TableAfter, Begins};
+ghost use Rattle.stores.specs.Sparse.{SparseSize, sparse_count, sparse_sectors, sparse_of, SparseSound, sparse_sound-prop, Slot, TableAfter, Begins};
 
 use device::{Act, Cause, Fault, Geometry, SectorDevice, check_transfer, zero_sector};
 use kept::{KeptSector, find, give_back};
@@ -15,6 +14,7 @@ pub struct SparseDevice<'a> {
     size: u32,
     geometry: Geometry,
     failed: bool,
+    ghost sound: { SparseSound places.now size } by { sparse_sound-prop places.now size },
 }
 
 // Whether a sparse card may have so many sectors: 1 to 268,435,456.
@@ -50,7 +50,6 @@ impl<'a> SparseDevice<'a> {
         ensures size { result.size ≡ sparse_count sectors }
         ensures geometry { result.geometry ≡ geometry }
         ensures failed { result.failed ≡ false }
-        ensures sound { SparseSound result.places.now result.size }
         ensures meaning { sparse_of result.places.now result.size result.geometry result.failed ≡ record { sectors = replicate (sparse_count sectors) (zeros 512); geometry = geometry; condition = well } }
     {
         places.fill(None);
@@ -98,9 +97,10 @@ impl<'a> SparseDevice<'a> {
 }
 
 impl<'a> SectorDevice for SparseDevice<'a> {
-    ghost meaning = { λ d. sparse_card.meaning d };
+    ghost use Rattle.device.specs.Calls.{KeepsFaults, ReadsSector, WritesSector};
+    ghost use Rattle.stores.specs.SparseCard.{sparse_card};
 
-    ghost sound = { λ d. sparse_card.sound d };
+    ghost meaning = { λ d. sparse_card.meaning d };
 
     ghost faults = { λ d. sparse_card.faults d };
 
@@ -114,7 +114,6 @@ impl<'a> SectorDevice for SparseDevice<'a> {
 
     // A card that is well accepts every read of a sector that is there, and no read changes it.
     fn read(&mut self, n: u32, buf: &mut [u8]) -> Result<(), Fault>
-        ensures stays { Stays sparse_card self.old self.new }
         ensures faults { KeepsFaults sparse_card self.old self.new }
         ensures reads { ReadsSector sparse_card self.old self.new n buf.old buf.new result }
         ensures accepted { self.old.failed ≡ false → length buf.old ≡ 512 → n < self.old.size → result ≡ Ok tt }
@@ -130,7 +129,6 @@ impl<'a> SectorDevice for SparseDevice<'a> {
 
     // Zeros give back every place of the sector, other bytes take one; where there is none, refusals begin.
     fn write(&mut self, n: u32, buf: &[u8]) -> Result<(), Fault>
-        ensures stays { Stays sparse_card self.old self.new }
         ensures faults { KeepsFaults sparse_card self.old self.new }
         ensures writes { WritesSector sparse_card self.old self.new n buf.now result }
         ensures begins { Begins self.old.places.now self.old.size n buf.now self.old.failed self.new.failed result }

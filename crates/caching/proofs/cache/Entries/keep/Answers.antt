@@ -1,6 +1,6 @@
 use Rattle.std.proofs.Common.{◌≡◌, ◌%◌, ◌<◌, set, sym, subst, arith, rules}
 use Rattle.kept.specs.Kept.{Places}
-use Rattle.caching.specs.Cache.{KeptToo}
+use Rattle.caching.specs.Keeping.{KeptToo}
 use Rattle.caching.proofs.Kept.{entry, kept_too}
 use Rattle.caching.proofs.cache.Entries.keep.Goals as goal
 

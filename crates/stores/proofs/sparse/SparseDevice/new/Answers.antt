@@ -6,18 +6,24 @@ use Rattle.stores.proofs.SparseTables.{sectors_free, sound_free}
 use Rattle.stores.proofs.SparseTransfers.{count_few}
 use Rattle.stores.proofs.sparse.SparseDevice.new.Goals as goal
 
+pub invariant_of-result : goal.invariant_of-result
+invariant_of-result c =
+    let k = length c.args.places.now in
+    let s = c.count_of.result in
+    let e : c.fill.new.self ≡ replicate k None = c.fill.ensures.after (search rules) in
+    let few = subst (λ (v : ℕ). v ≤ 268435456) (sym c.count_of.ensures) (count_few c.args.sectors) in
+    record { sound = subst (λ (xs : Places). SparseSound xs s) (sym e) (sound_free k s few) }
+
 pub returns : goal.returns
 returns c =
     let k = length c.args.places.now in
     let s = c.count_of.result in
     let e : c.fill.new.self ≡ replicate k None = c.fill.ensures.after (search rules) in
-    let few = subst (λ (v : ℕ). v ≤ 268435456) (sym c.count_of.ensures) (count_few c.args.sectors) in
     record {
       places = e;
       size = c.count_of.ensures;
       geometry = refl;
       failed = refl;
-      sound = subst (λ (xs : Places). SparseSound xs s) (sym e) (sound_free k s few);
       meaning =
           ap (λ (v : Sectors). record { sectors = v; geometry = c.args.geometry; condition = well })
           (ap (sparse_sectors s) e ∙ sectors_free s k ∙ ap (λ (v : ℕ). replicate v (zeros 512)) c.count_of.ensures);

@@ -11,9 +11,8 @@ returns-in_err-check_transfer c =
     let d = c.args.self.now in
     let p = err_from_is_err_and c.from_residual.result c.from_residual.ensures.1 in
     record {
-      stays = λ s. s;
-      faults = λ s a k f z. z;
-      reads = λ s. rw (p.1, p.2) (refused_read (sym (length_sparse d.size d.places.now)) c.in_err-check_transfer.ensures);
+      faults = λ a k f z. z;
+      reads = rw (p.1, p.2) (refused_read (sym (length_sparse d.size d.places.now)) c.in_err-check_transfer.ensures);
       accepted = λ w l m. p.1 ∙ ap Err p.2 ∙ c.in_err-check_transfer.ensures.otherwise l m;
       unchanged = refl;
     }
@@ -23,9 +22,8 @@ returns-then-self c =
     let d = c.args.self.now in
     let p = passed c.in_ok-check_transfer.ensures in
     record {
-      stays = λ s. s;
-      faults = λ s a k f z. z;
-      reads = λ s. sparse_read_refused d.places.now d.size d.geometry d.failed c.args.n _ _ c.if-self.true c.new.ensures p.1 p.0;
+      faults = λ a k f z. z;
+      reads = sparse_read_refused d.places.now d.size d.geometry d.failed c.args.n _ _ c.if-self.true c.new.ensures p.1 p.0;
       accepted = λ w l m. absurd (both_ways d.failed w c.if-self.true);
       unchanged = refl;
     }
@@ -35,9 +33,8 @@ returns c =
     let d = c.args.self.now in
     let p = passed c.in_ok-check_transfer.ensures in
     record {
-      stays = λ s. s;
-      faults = λ s a k f z. z;
-      reads = λ s. sparse_read d.places.now d.size d.geometry d.failed c.args.n _ _ c.if-self.false p.1 p.0 c.copy_sector.ensures;
+      faults = λ a k f z. z;
+      reads = sparse_read d.places.now d.size d.geometry d.failed c.args.n _ _ c.if-self.false p.1 p.0 c.copy_sector.ensures;
       accepted = λ w l m. refl;
       unchanged = refl;
     }

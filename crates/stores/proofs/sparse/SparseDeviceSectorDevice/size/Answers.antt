@@ -7,6 +7,6 @@ pub returns : goal.returns
 returns c =
     let d = c.args.self.now in
     record {
-      lawful = λ p. sparse_lawful d.places.now d.size d.geometry d.failed p;
-      value = λ p. sym (length_sparse d.size d.places.now);
+      lawful = sparse_lawful d.places.now d.size d.geometry d.failed d.sound;
+      value = sym (length_sparse d.size d.places.now);
     }
