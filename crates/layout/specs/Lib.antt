@@ -6,3 +6,4 @@ pub mod Names
 pub mod DiskIds
 pub mod Label
 pub mod Figures
+pub mod NameEq

@@ -2,30 +2,18 @@
 ghost use Rattle.std.specs.Prelude.{◌≡◌, ◌≤◌, length};
 ghost use Rattle.std.specs.Str.{bytes_eq};
 ghost use Rattle.layout.specs.Names.{name_char, lawful_name, padded, name_of};
-ghost use Rattle.std.specs.Cmp.Rules.{comparing};
-ghost use Rattle.std.proofs.Common.{rules};
 
-use crate::bytes::same;
-
-// A lawful name, padded with spaces.
-#[derive(Clone, Copy, Debug)]
+// A lawful name, padded with spaces. Two names are equal if they are equal padded.
+#[derive(Clone, Copy, PartialEq, Eq, Debug)]
 pub struct Name {
     bytes: [u8; 16],
 }
 
-// Two names are equal if they are equal padded.
-impl PartialEq for Name {
-    ghost eq = { λ a b. bytes_eq a.bytes b.bytes };
-
-    ghost laws = { Prim.search (comparing, rules) };
-
-    fn eq(&self, other: &Name) -> bool {
-        same(&self.bytes, &other.bytes)
-    }
-}
-
 impl Name {
-    // The name of these bytes, if they make one.
+    ghost use Rattle.layout.specs.NameEq.{same_name};
+    ghost use Rattle.layout.specs.declared.names.Name.{Name};
+
+    // The name of these bytes, if they make one. Like `NonZeroU8::new`: an error would say no more than `None`.
     pub fn new(text: &[u8]) -> Option<Name>
         ensures { result ≡ name_of text.now }
     {
@@ -35,10 +23,11 @@ impl Name {
         Some(Name { bytes: pad(text) })
     }
 
-    // The sixteen bytes that an entry or a label stores.
+    // The sixteen bytes that an entry or a label stores. They tell names apart.
     pub fn padded(&self) -> [u8; 16]
         ensures value { result ≡ self.now.bytes }
         ensures len { length result ≡ 16 }
+        ensures tells { (other : Name) → same_name self.now other ≡ bytes_eq result other.bytes }
     {
         self.bytes
     }
@@ -48,31 +37,19 @@ impl Name {
 fn is_name_char(c: char) -> bool
     ensures { result ≡ name_char c }
 {
-    match c {
-        'A'..='Z' | '0'..='9' | ' ' | '-' => true,
-        _ => false,
-    }
+    matches!(c, 'A'..='Z' | '0'..='9' | ' ' | '-')
 }
 
 fn is_lawful(name: &[u8]) -> bool
     ensures { result ≡ lawful_name name.now }
 {
-    if name.len() > 16 {
-        return false;
-    }
-    let mut shown = false;
-    for b in name {
-        if !is_name_char(char::from(*b)) {
-            return false;
-        }
-        if *b != b' ' {
-            shown = true;
-        }
-    }
-    shown
+    name.len() <= 16
+        && name.iter().all(|b| is_name_char(char::from(*b)))
+        && name.iter().any(|b| *b != b' ')
 }
 
 // At most sixteen bytes, with spaces behind them.
+#[tactic(auto, unfolding(crate::specs::Names::padded))]
 fn pad(name: &[u8]) -> [u8; 16]
     requires { length name.now ≤ 16 }
     ensures { result ≡ padded name.now }
