@@ -1,11 +1,12 @@
 -- The master sector put together, and read again.
-use Rattle.std.proofs.Common.{◌≡◌, ℕ, ◌+◌, ◌-◌, ◌*◌, ◌/◌, ◌%◌, ◌<◌, ◌≤◌, Bool, true, false, cond, ◌&&◌, ltb, List, [], ◌++◌, length, take, drop, Some, None, Ok, Option, sym, refl, ap, ◌∙◌, ap₂, arith, lit≤, length-append, lt-ltb, eq-eqb, le-leb}
+use Rattle.std.proofs.Common.{◌≡◌, ℕ, ◌+◌, ◌-◌, ◌*◌, ◌/◌, ◌%◌, ◌<◌, ◌≤◌, true, false, ltb, List, [], ◌++◌, length, take, drop, Some, None, Ok, sym, refl, ap, ◌∙◌, ap₂, arith, lit≤, length-append, lt-ltb, eq-eqb, le-leb}
+use Rattle.std.proofs.lemmas.Bool.{and_from, and_right}
 use Rattle.std.proofs.lemmas.List.{drop_all, drop-drop, drop-append-le, append_assoc, take_at, drop_at}
 use Rattle.std.specs.Str.{bytes_eq}
 use Rattle.layout.specs.Bytes.{part}
 use Rattle.layout.specs.Words.{word_at, double_at}
 use Rattle.layout.specs.Sizes.{entries_of, area_of, slots_of, layout_of}
-use Rattle.layout.specs.Label.{first_failing, checks_of, bad_field, label_front, label_head, label_sector, label_in, read_label, answered, dos_name, dos_version, signature, LawfulLabel}
+use Rattle.layout.specs.Label.{bad_field, label_front, label_head, label_sector, label_in, read_label, answered, dos_name, dos_version, signature, LawfulLabel}
 use Rattle.layout.specs.declared.label.Label.{Label}
 use Rattle.layout.specs.declared.sizes.Layout.{Layout}
 use Rattle.device.specs.Meaning.{zeros}
@@ -21,13 +22,6 @@ signed_rest k m n s t h l e =
     let z : k ≤ length (zeros m) = omega (arith, length-zeros m) in
     ap (drop k) (e ∙ ap (λ (x : List ℕ). x ++ t) (take-zeros m n l)) ∙ drop-append-le k (zeros m) t z
     ∙ ap (λ (x : List ℕ). x ++ t) (drop-zeros k m)
-
--- a field that holds leaves the answer to those after it
-pass : (k : ℕ) {h : Bool} {x : Option ℕ} → h ≡ true → x ≡ None → cond h x (Some k) ≡ None
-pass k e f = ap₂ (λ (b : Bool) (y : Option ℕ). cond b y (Some k)) e f
-
-both : (a b : Bool) → a ≡ true → b ≡ true → (a && b) ≡ true
-both a b p q = ap₂ (λ (x y : Bool). x && y) p q
 
 -- a word and a double word read again
 word_back : (w : ℕ) → w % 256 + w / 256 * 256 ≡ w
@@ -91,14 +85,16 @@ no_bad_field l n ln li p =
     let entries : word_at b 25 ≡ entries_of s = (words_back l).0 ∙ ap (λ (x : Layout). x.entries) p.layout in
     let area : word_at b 29 ≡ area_of s = (words_back l).2 ∙ ap (λ (x : Layout). x.area) p.layout in
     let signed = ap (λ (x : List ℕ). bytes_eq x signature) (signature_back l ln li) in
-    ap (λ (x : ℕ). first_failing (checks_of n x b)) (sectors_back l)
-    ∙ pass 0 (both _ _ (lt-ltb 0 n some) (texts_back l).0)
-    (pass 10 (texts_back l).1
-    (pass 15 (both _ _ (le-leb s n p.sectors) (lt-ltb 0 (slots_of s) p.slots))
-    (pass 25 (eq-eqb _ _ entries)
-    (pass 27 (eq-eqb _ _ (words_back l).1)
-    (pass 29 (eq-eqb _ _ area)
-    (pass 510 signed refl))))))
+    simp (
+      sectors_back l,
+      and_from _ _ (lt-ltb 0 n some) (texts_back l).0,
+      (texts_back l).1,
+      and_from _ _ (le-leb s n p.sectors) (lt-ltb 0 (slots_of s) p.slots),
+      eq-eqb _ _ entries,
+      eq-eqb _ _ (words_back l).1,
+      eq-eqb _ _ area,
+      signed,
+    )
 
 label_in_back : (l : Label) (n : ℕ) → length l.name ≡ 16 → length l.id ≡ 4 → LawfulLabel l n → label_in (label_sector l) ≡ l
 unfolding label_in
@@ -121,14 +117,9 @@ zeros_no_name : bytes_eq (zeros 9) dos_name ≡ false
 unfolding zeros
 zeros_no_name = refl
 
-and_false : (a : Bool) → (a && false) ≡ false
-and_false true = refl
-and_false false = refl
-
 -- a sector of zeros is no master sector: its first field fails
 pub zeros_bad : (n : ℕ) → bad_field n (zeros 512) ≡ Some 0
 unfolding bad_field
 zeros_bad n =
     let named = ap (λ (x : List ℕ). bytes_eq x dos_name) (take-zeros 9 512 (lit≤ tt)) ∙ zeros_no_name in
-    let none = ap (λ (b : Bool). ltb 0 n && b) named ∙ and_false (ltb 0 n) in
-    rw none
+    rw (and_right (ltb 0 n) _ named)

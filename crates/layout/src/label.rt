@@ -1,8 +1,8 @@
 // The label: what the master sector says of a card.
-ghost use Rattle.std.specs.Prelude.{◌≡◌, ℕ, ◌++◌, length, take, Ok};
-ghost use Rattle.layout.specs.Label.{signature, label_head, label_sector, bad_field, label_in, read_label, LawfulLabel};
+ghost use Rattle.std.specs.Prelude.{◌≡◌, ℕ, ◌++◌, length, take, map, Ok};
+ghost use Rattle.layout.specs.Label.{signature, label_head, label_sector, field, checks_of, bad_field, label_in, read_label, LawfulLabel};
+ghost use Rattle.layout.specs.Words.{double_at};
 
-use crate::bytes::same;
 use crate::sizes::Layout;
 use crate::words::{double_at, put_double, put_word, word_at};
 use device::{Geometry, zero_sector};
@@ -40,6 +40,7 @@ impl Label {
     }
 
     // The fields in front. The name goes in last: up to there the bytes stand at fixed places.
+    #[tactic(auto, unfolding(crate::specs::Label::label_front))]
     fn head(&self) -> [u8; 52]
         ensures value { result ≡ label_head self.now }
         ensures lengths { (length self.now.name ≡ 16) × (length self.now.id ≡ 4) }
@@ -59,13 +60,10 @@ impl Label {
         head
     }
 
+    #[tactic(auto, unfolding(crate::specs::Label::label_in))]
     fn in_sector(sector: &[u8; 512]) -> Label
         ensures { result ≡ label_in sector.now }
     {
-        let mut name = [0u8; 16];
-        name.copy_from_slice(&sector[0x020..0x030]);
-        let mut id = [0u8; 4];
-        id.copy_from_slice(&sector[0x030..0x034]);
         Label {
             layout: Layout::of(double_at(sector, 0x00F)),
             geometry: Geometry {
@@ -73,8 +71,8 @@ impl Label {
                 sectors_per_track: word_at(sector, 0x015),
                 heads: word_at(sector, 0x017),
             },
-            name,
-            id,
+            name: sector[0x020..0x030].try_into().unwrap(),
+            id: sector[0x030..0x034].try_into().unwrap(),
         }
     }
 }
@@ -90,27 +88,24 @@ fn sign(sector: &mut [u8; 512])
 fn bad_field(sector: &[u8; 512], size: u32) -> Option<u16>
     ensures { result ≡ bad_field size sector.now }
 {
-    if size == 0 || !same(&sector[0x000..0x009], b"LM80C DOS") {
-        return Some(0x000);
-    }
-    if !same(&sector[0x00A..0x00E], b"1.06") {
-        return Some(0x00A);
-    }
+    checks(sector, size)
+        .iter()
+        .find(|(_, holds)| !holds)
+        .map(|(offset, _)| *offset)
+}
+
+// The fields that are checked, in order: the offset of each, and whether it holds what it must.
+fn checks(sector: &[u8; 512], size: u32) -> [(u16, bool); 7]
+    ensures { map (λ f. field f.0 f.1) result ≡ checks_of size (double_at sector.now 15) sector.now }
+{
     let layout = Layout::of(double_at(sector, 0x00F));
-    if layout.sectors > size || layout.slots == 0 {
-        return Some(0x00F);
-    }
-    if word_at(sector, 0x019) != layout.entries {
-        return Some(0x019);
-    }
-    if word_at(sector, 0x01B) != 1 {
-        return Some(0x01B);
-    }
-    if word_at(sector, 0x01D) != layout.area {
-        return Some(0x01D);
-    }
-    if !same(&sector[0x1FE..0x200], b"80") {
-        return Some(0x1FE);
-    }
-    None
+    [
+        (0x000, size > 0 && sector[0x000..0x009] == b"LM80C DOS"[..]),
+        (0x00A, sector[0x00A..0x00E] == b"1.06"[..]),
+        (0x00F, layout.sectors <= size && layout.slots > 0),
+        (0x019, word_at(sector, 0x019) == layout.entries),
+        (0x01B, word_at(sector, 0x01B) == 1),
+        (0x01D, word_at(sector, 0x01D) == layout.area),
+        (0x1FE, sector[0x1FE..0x200] == b"80"[..]),
+    ]
 }

@@ -1,8 +1,6 @@
 // The card format as bytes: sizes, words, names and the master sector. Nothing here touches a device.
 #![tactic(auto)]
 
-// Runs of bytes: equal or not.
-mod bytes;
 // Words and double words in a run of bytes.
 pub mod words;
 // Where everything lies on a card of so many sectors.
