@@ -8,7 +8,7 @@ pub struct DiskId {
 }
 
 impl DiskId {
-    // The id of these bytes, if they make one.
+    // The id of these bytes, if they make one. Like `NonZeroU8::new`: an error would say no more than `None`.
     pub fn new(text: &[u8]) -> Option<DiskId>
         ensures { result ≡ id_of text.now }
     {

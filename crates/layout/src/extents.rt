@@ -6,14 +6,11 @@ ghost use Rattle.layout.specs.Extents.{extent_of, Extent, size_of};
 pub fn job_size(bytes: usize) -> Option<u16>
     ensures { result ≡ size_of bytes }
 {
-    if bytes <= 65_535 {
-        Some(bytes as u16)
-    } else {
-        None
-    }
+    u16::try_from(bytes).ok()
 }
 
 // The sectors that so many bytes take, and the bytes in the last of them: 512 in a full one, 0 where there is none.
+// A pair without names, since each caller takes it apart at once.
 pub fn extent(bytes: u16) -> (u8, u16)
     ensures value { result ≡ extent_of bytes }
     ensures told { Extent bytes result.0 result.1 }
@@ -21,5 +18,5 @@ pub fn extent(bytes: u16) -> (u8, u16)
     if bytes == 0 {
         return (0, 0);
     }
-    (((bytes - 1) / 512 + 1) as u8, (bytes - 1) % 512 + 1)
+    (bytes.div_ceil(512) as u8, (bytes - 1) % 512 + 1)
 }

@@ -10,6 +10,8 @@ pub fn word_at(bytes: &[u8], at: usize) -> u16
     u16::from_le_bytes([bytes[at], bytes[at + 1]])
 }
 
+// Double words go by halves, in no byte order that `u32` knows; a trait over both widths would repeat these bodies.
+
 // The double word at a place. Asks: that its four bytes are there.
 pub fn double_at(bytes: &[u8], at: usize) -> u32
     requires { at + 4 ≤ length bytes.now }
@@ -23,8 +25,7 @@ pub fn put_word(bytes: &mut [u8], at: usize, word: u16)
     requires { at + 2 ≤ length bytes.old }
     ensures { bytes.new ≡ put_word bytes.old at word }
 {
-    bytes[at] = (word % 256) as u8;
-    bytes[at + 1] = (word / 256) as u8;
+    [bytes[at], bytes[at + 1]] = word.to_le_bytes();
 }
 
 // Writes a double word at a place. Asks: that there is room.
