@@ -5,8 +5,9 @@ ghost use Rattle.entries.specs.Entry.{entry_in, entry_bytes, new_entry, resized,
 use layout::words::{double_at, put_double, put_word, word_at};
 use layout::{Name, extent};
 
-// What the 32 bytes say. Any bytes make an entry; `EntryState` says whether it is a file's.
-#[derive(Clone, Copy)]
+// What the 32 bytes say. Any bytes make an entry; `EntryState` says whether it is a file's. Type and attributes may be any
+// byte, so they are no enums.
+#[derive(Clone, Copy, PartialEq, Eq, Debug, Default)]
 pub struct Entry {
     pub name: [u8; 16],
     pub kind: u8,
@@ -20,16 +21,14 @@ pub struct Entry {
 }
 
 impl Entry {
+    // By name both ways, as `u16::from_le_bytes` and `to_le_bytes` are: 32 bytes may be many other things.
+    #[tactic(auto, using(crate::proofs::Entries::bytes_back), unfolding(crate::specs::Entry::entry_in))]
     pub fn decode(bytes: &[u8; 32]) -> Entry
         ensures value { result ≡ entry_in bytes.now }
         ensures back { entry_bytes result ≡ bytes.now }
     {
-        let mut name = [0u8; 16];
-        name.copy_from_slice(&bytes[0..16]);
-        let mut reserved = [0u8; 3];
-        reserved.copy_from_slice(&bytes[29..32]);
         Entry {
-            name,
+            name: bytes[0..16].try_into().unwrap(),
             kind: bytes[16],
             attributes: bytes[17],
             slot: word_at(bytes, 18),
@@ -37,7 +36,7 @@ impl Entry {
             size: word_at(bytes, 24),
             sectors: bytes[26],
             address: word_at(bytes, 27),
-            reserved,
+            reserved: bytes[29..32].try_into().unwrap(),
         }
     }
 
@@ -59,7 +58,8 @@ impl Entry {
         bytes
     }
 
-    // The entry of a new file.
+    // The entry of a new file: no attributes, nothing reserved.
+    #[tactic(auto, unfolding(crate::specs::Entry::new_entry, device::specs::Meaning::zeros))]
     pub fn new(name: &Name, kind: u8, slot: u16, first: u32, size: u16, address: u16) -> Entry
         ensures { result ≡ new_entry name.now.bytes kind slot first size address }
     {
@@ -77,19 +77,13 @@ impl Entry {
     }
 
     // The entry of a slot that is still to be wiped: so many sectors, and nothing else.
+    #[tactic(auto, unfolding(crate::specs::Entry::hold_entry, device::specs::Meaning::zeros))]
     pub fn held(sectors: u8) -> Entry
         ensures { result ≡ hold_entry sectors }
     {
         Entry {
-            name: [0; 16],
-            kind: 0,
-            attributes: 0,
-            slot: 0,
-            first: 0,
-            size: 0,
             sectors,
-            address: 0,
-            reserved: [0; 3],
+            ..Entry::default()
         }
     }
 

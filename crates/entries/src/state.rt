@@ -21,44 +21,28 @@ pub enum EntryState {
 
 impl Entry {
     // What this entry says as that of a slot on a card with this layout.
+    #[tactic(auto, unfolding(crate::specs::State::state_of))]
     pub fn state(&self, layout: &Layout, slot: u16) -> EntryState
         ensures { result ≡ state_of layout.now slot self.now }
     {
         match self.name[0] {
-            0 => {
-                if self.sectors == 0 {
-                    EntryState::Empty
-                } else {
-                    EntryState::Held(self.sectors.min(128))
-                }
-            }
+            0 if self.sectors == 0 => EntryState::Empty,
+            0 => EntryState::Held(self.sectors.min(128)),
             0x7F => EntryState::Erased,
-            _ => {
-                if self.is_live(layout, slot) {
-                    EntryState::Live
-                } else {
-                    EntryState::Damaged
-                }
-            }
+            _ if self.is_live(layout, slot) => EntryState::Live,
+            _ => EntryState::Damaged,
         }
     }
 
     // Whether slot, name, slot field, first sector and size in sectors are those of a file.
+    #[tactic(auto, unfolding(crate::specs::State::live_entry))]
     fn is_live(&self, layout: &Layout, slot: u16) -> bool
         ensures { result ≡ live_entry layout.now slot self.now }
     {
-        if slot >= layout.slots {
-            return false;
-        }
-        if Name::new(&self.name).is_none() {
-            return false;
-        }
-        if self.slot != slot {
-            return false;
-        }
-        if self.first != layout.block(slot) {
-            return false;
-        }
-        self.sectors == extent(self.size).0
+        slot < layout.slots
+            && Name::new(&self.name).is_some()
+            && self.slot == slot
+            && self.first == layout.block(slot)
+            && self.sectors == extent(self.size).0
     }
 }
