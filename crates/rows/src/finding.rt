@@ -5,37 +5,28 @@ ghost use Rattle.rows.specs.Findings.{finding_number};
 #[derive(Clone, Copy, PartialEq, Eq, Debug)]
 pub enum FindingKind {
     // the name is not lawful
-    Name,
+    Name = 1,
     // the slot field is not the slot
-    Slot,
+    Slot = 2,
     // the first sector is not that of the slot's block
-    FirstSector,
+    FirstSector = 3,
     // the size in sectors is not that of the size in bytes
-    Sectors,
+    Sectors = 4,
     // a live job in a lower slot has the name
-    NameTaken,
+    NameTaken = 5,
     // the slot has no block on the card, and is not empty
-    NoBlock,
+    NoBlock = 6,
     // a wipe was cut off
-    Held,
+    Held = 7,
     // the type is none of BAS, BIN and SEQ
-    FileType,
+    FileType = 8,
 }
 
 impl FindingKind {
     pub fn number(self) -> u8
         ensures { result ≡ finding_number self }
     {
-        match self {
-            FindingKind::Name => 1,
-            FindingKind::Slot => 2,
-            FindingKind::FirstSector => 3,
-            FindingKind::Sectors => 4,
-            FindingKind::NameTaken => 5,
-            FindingKind::NoBlock => 6,
-            FindingKind::Held => 7,
-            FindingKind::FileType => 8,
-        }
+        self as u8
     }
 }
 
