@@ -2,6 +2,8 @@
 ghost use Rattle.std.specs.Prelude.{◌≡◌, slice_set};
 ghost use Rattle.rows.specs.Rows.{one_more, FirstKept};
 
+// The slice is the caller's, and the count goes on past its end. Each call keeps the lender, so that the caller knows what
+// its slice holds in the end.
 #[derive(Drop)]
 pub struct RowTable<'a, R> {
     rows: &'a mut [R],
@@ -33,6 +35,7 @@ impl<'a, R: Drop> RowTable<'a, R> {
         ensures rows { self.new.rows.now ≡ slice_set self.old.rows.now self.old.total row }
         ensures lender { self.new.rows.ghost_name ≡ self.old.rows.ghost_name }
     {
+        // By index: what a slice holds once it was written to through `get_mut` is promised nowhere.
         if self.total < self.rows.len() {
             self.rows[self.total] = row;
         }
@@ -43,8 +46,7 @@ impl<'a, R: Drop> RowTable<'a, R> {
     pub fn total(&self) -> usize
         ensures { result ≡ self.now.total }
     {
-        let RowTable { total, .. } = self;
-        *total
+        self.total
     }
 }
 
