@@ -1,4 +1,5 @@
 pub mod Calls
 pub mod Faults
+pub mod FaultText
 pub mod Meaning
 pub mod Transfers

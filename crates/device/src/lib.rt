@@ -3,6 +3,8 @@
 
 // Who refused what: causes, acts, faults and their levels; the geometry.
 pub mod faults;
+// A fault as text.
+mod fault_text;
 // Sectors of zeros.
 pub mod sectors;
 // The interface: a device of sectors, and what it means.
