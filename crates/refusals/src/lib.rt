@@ -1,6 +1,9 @@
 // The refusals of card calls, by number. docs/CALLS.md says which call refuses when, and what it leaves.
 #![tactic(auto)]
 
+// A refusal as text.
+mod text;
+
 ghost use Rattle.std.specs.Prelude.{◌≡◌};
 ghost use Rattle.refusals.specs.Refusals.{refusal_number};
 ghost use Rattle.refusals.specs.declared.Refusal.TheVariants.{Device as ByDevice};
@@ -42,6 +45,7 @@ pub enum Refusal {
 }
 
 impl Refusal {
+    // A table: `as` takes no enum whose variants have fields.
     pub fn number(&self) -> u8
         ensures { result ≡ refusal_number self.now }
     {
@@ -65,6 +69,7 @@ impl Refusal {
     }
 }
 
+// By hand, since contracts of calls say which refusal their `?` makes.
 impl From<Fault> for Refusal {
     ghost from_gives = { λ f r. r ≡ ByDevice f };
 
