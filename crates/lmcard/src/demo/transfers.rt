@@ -1,6 +1,6 @@
 // Transfers of whole sectors, printed with their answers.
 use crate::failure::Failure;
-use device::{Fault, SectorDevice, zero_sector};
+use device::{SectorDevice, zero_sector};
 
 // Writes a sector full of one byte.
 pub(crate) fn write<D: SectorDevice>(
@@ -14,7 +14,7 @@ pub(crate) fn write<D: SectorDevice>(
     print!(rt; "write sector {n}, all ${byte:02X}: ")?;
     match device.write(n, &sector) {
         Ok(()) => println!(rt; "ok")?,
-        Err(fault) => show_fault(rt, fault)?,
+        Err(fault) => println!(rt; "refused, {fault}")?,
     }
     Ok(())
 }
@@ -29,16 +29,7 @@ pub(crate) fn read<D: SectorDevice>(
     print!(rt; "read sector {n}: ")?;
     match device.read(n, &mut sector) {
         Ok(()) => println!(rt; "ok, begins with ${:02X}", sector[0])?,
-        Err(fault) => show_fault(rt, fault)?,
+        Err(fault) => println!(rt; "refused, {fault}")?,
     }
-    Ok(())
-}
-
-fn show_fault(rt: &HostRuntime, fault: Fault) -> Result<(), Failure> {
-    let cause = fault.cause.number();
-    let act = fault.act.number();
-    let sector = fault.sector;
-    let level = fault.level;
-    println!(rt; "refused, cause {cause}, act {act}, sector {sector}, level {level}")?;
     Ok(())
 }
