@@ -43,7 +43,7 @@ fn sectors_in(word: &str) -> Result<u32, Failure>
     ensures { IfOk result (λ n. (1 ≤ n) × (n ≤ 268435456)) }
 {
     match word.parse::<u32>() {
-        Ok(n) if n >= 1 && n <= 268_435_456 => Ok(n),
+        Ok(n) if (1..=268_435_456).contains(&n) => Ok(n),
         _ => Err(Failure::Sectors),
     }
 }

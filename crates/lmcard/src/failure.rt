@@ -7,9 +7,7 @@ use thiserror::Error;
 #[derive(Debug, Drop, Error)]
 pub(crate) enum Failure {
     // the words of the command line make no command
-    #[error(
-        "the commands are\n  lmcard new IMAGE SECTORS NAME ID    make and format a card image\n  lmcard info IMAGE                   print the card's label\n  lmcard demo                         show it all on a card in memory"
-    )]
+    #[error("the commands are\n  lmcard new IMAGE SECTORS NAME ID    make and format a card image\n  lmcard info IMAGE                   print the card's label\n  lmcard demo                         show it all on a card in memory")]
     Usage,
     // a number of sectors that no card has
     #[error("SECTORS is a number from 1 to 268435456; nothing was made")]
@@ -23,9 +21,7 @@ pub(crate) enum Failure {
     #[error("the file of that name with .new behind it is in the way; nothing was changed")]
     Beside,
     // the length of a file that is no card image
-    #[error(
-        "a file of {0} bytes is no card image, which has 512 for each sector; it was left as it is"
-    )]
+    #[error("a file of {0} bytes is no card image, which has 512 for each sector; it was left as it is")]
     NoImage(usize),
     #[error("there is not enough memory; nothing was changed")]
     Memory(#[from] AllocError),

@@ -24,7 +24,8 @@ pub(crate) fn new(
     let label = read_label(&mut card)?;
     store(rt, image, &bytes)?;
     println!(rt; "{image}: made and formatted")?;
-    show::label(rt, &label)
+    rt.println(show::Lines(&label))?;
+    Ok(())
 }
 
 // Prints the label of a card image.
@@ -37,7 +38,8 @@ pub(crate) fn info(rt: &HostRuntime, image: &str) -> Result<(), Failure> {
     let mut card = ImageDevice::new(&mut bytes, image_geometry((len / 512) as u32));
     let label = read_label(&mut card)?;
     println!(rt; "{image}")?;
-    show::label(rt, &label)
+    rt.println(show::Lines(&label))?;
+    Ok(())
 }
 
 // Writes the bytes to a new file beside the image, and then puts that in the image's place.
@@ -46,10 +48,9 @@ fn store(rt: &HostRuntime, image: &str, bytes: &[u8]) -> Result<(), Failure> {
     if fs::exists(rt, beside.as_str())? {
         return Err(Failure::Beside);
     }
-    if let Err(error) = replace(rt, image, beside.as_str(), bytes) {
+    replace(rt, image, beside.as_str(), bytes).inspect_err(|_| {
         let _ = fs::remove_file(rt, beside.as_str());
-        return Err(Failure::File(error));
-    }
+    })?;
     Ok(())
 }
 

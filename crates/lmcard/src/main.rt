@@ -35,9 +35,10 @@ fn run(rt: &HostRuntime, words: &[String]) -> Result<(), Failure> {
 
 // Says what went wrong, and with which image.
 fn report(rt: &HostRuntime, words: &[String], failure: &Failure) {
-    let _ = match (failure, words) {
-        (Failure::Usage, _) => eprintln!(rt; "lmcard: {failure}"),
-        (_, [_, image, ..]) => eprintln!(rt; "lmcard: {image}: {failure}"),
+    let _ = match words {
+        [_, image, ..] if !matches!(failure, Failure::Usage) => {
+            eprintln!(rt; "lmcard: {image}: {failure}")
+        }
         _ => eprintln!(rt; "lmcard: {failure}"),
     };
 }
@@ -45,13 +46,10 @@ fn report(rt: &HostRuntime, words: &[String], failure: &Failure) {
 // Carries out the command line, and says what went wrong.
 fn carry_out(rt: &HostRuntime) -> Result<(), Failure> {
     let words: Vec<String> = env::args(rt)?.skip(1).collect(rt.alloc())?;
-    let done = run(rt, &words);
-    if let Err(failure) = &done {
-        report(rt, &words, failure);
-    }
-    done
+    run(rt, &words).inspect_err(|failure| report(rt, &words, failure))
 }
 
+// An exit code, since a failure that `main` returns would be printed once more.
 fn main(rt: HostRuntime) -> ExitCode {
     match carry_out(&rt) {
         Ok(()) => ExitCode::SUCCESS,

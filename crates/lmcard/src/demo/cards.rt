@@ -12,11 +12,12 @@ pub(crate) fn run(rt: &HostRuntime) -> Result<(), Failure> {
     let mut card = ImageDevice::new(&mut bytes, image_geometry(sectors));
     attempt(rt, &mut card, "LETTERS", "B1Y7")?;
     println!(rt; "its label, read back:")?;
-    show::label(rt, &read_label(&mut card)?)?;
+    rt.println(show::Lines(&read_label(&mut card)?))?;
     attempt(rt, &mut card, "letters", "B1Y7")?;
     attempt(rt, &mut card, "LETTERS", "7Y1B")?;
     println!(rt; "its label then:")?;
-    show::label(rt, &read_label(&mut card)?)
+    rt.println(show::Lines(&read_label(&mut card)?))?;
+    Ok(())
 }
 
 // Formats a card, and prints the call and its answer.
@@ -26,10 +27,7 @@ fn attempt(rt: &HostRuntime, card: &mut ImageDevice, name: &str, id: &str) -> Re
             "format \"{name}\" {id}: ok, room for {} files",
             layout.slots
         )?,
-        Err(refusal) => {
-            let failure = Failure::Refused(refusal);
-            println!(rt; "format \"{name}\" {id}: {failure}")?
-        }
+        Err(refusal) => println!(rt; "format \"{name}\" {id}: {}", Failure::from(refusal))?,
     }
     Ok(())
 }

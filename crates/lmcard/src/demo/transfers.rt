@@ -9,10 +9,8 @@ pub(crate) fn write<D: SectorDevice>(
     n: u32,
     byte: u8,
 ) -> Result<(), Failure> {
-    let mut sector = zero_sector();
-    sector.fill(byte);
     print!(rt; "write sector {n}, all ${byte:02X}: ")?;
-    match device.write(n, &sector) {
+    match device.write(n, &[byte; 512]) {
         Ok(()) => println!(rt; "ok")?,
         Err(fault) => println!(rt; "refused, {fault}")?,
     }
