@@ -1,7 +1,7 @@
 -- The caller's slice once rows have been offered to a table over it.
 use Rattle.std.specs.Prelude.{◌≡◌, ℕ, suc, ◌+◌, min, List, [], ◌∷◌, slice_set}
 
--- a counter of 64 bits moved on: it stops at 2^64 - 1
+-- a counter of 64 bits moved on: it stops at 2^64 - 1. The crate has its own, since it stands on no other
 abbrev pub one_more : ℕ → ℕ
 one_more k = min (k + 1) 18446744073709551615
 

@@ -1,5 +1,5 @@
 // A row of a listing: a live or an erased job. The name is as its entry has it, padded; that of an erased job begins
-// with $7F.
+// with $7F. The kind is the entry's type, a byte since any may stand on a card.
 #[derive(Clone, Copy, PartialEq, Eq, Debug)]
 pub struct JobRow {
     pub slot: u16,
