@@ -10,12 +10,6 @@ use Rattle.device.specs.declared.faults.Act.TheVariants.{Write}
 use Rattle.device.proofs.Zeros.{length-zeros}
 use Rattle.runs.specs.Writes.{SectorWrite, write_of, applied, with_sectors, failed_with, Interrupted, zeroing}
 
-none : (i : ℕ) → i < 0 → ⊥
-none i h = omega arith
-
-none_of : (k : ℕ) → k < k → ⊥
-none_of k h = omega arith
-
 pub applied_more : (s : Sectors) (ws : List SectorWrite) (w : SectorWrite) → applied s (ws ++ w ∷ []) ≡ set (applied s ws) w.at w.bytes
 unfolding applied
 applied_more s [] w = refl
@@ -36,7 +30,7 @@ length-zeroing a (suc n) = ap suc (length-zeroing (a + 1) n)
 
 pub get_or-zeroing : (a n i : ℕ) (d : SectorWrite) → i < n → get_or (zeroing a n) i d ≡ zero_at (a + i)
 unfolding zeroing
-get_or-zeroing a zero i d h = elim (none i h) [ ]
+get_or-zeroing a zero i d h = absurd (omega arith)
 get_or-zeroing a (suc n) zero d h = rw add-zero
 get_or-zeroing a (suc n) (suc i) d h =
     let l : i < n = omega arith in
@@ -53,7 +47,7 @@ zeroing_suc a (suc i) =
 pub take-zeroing : (a n i : ℕ) → i ≤ n → take i (zeroing a n) ≡ zeroing a i
 unfolding zeroing
 take-zeroing a n zero h = refl
-take-zeroing a zero (suc i) h = elim (none i h) [ ]
+take-zeroing a zero (suc i) h = absurd (omega arith)
 take-zeroing a (suc n) (suc i) h = let l : i ≤ n = omega arith in ap (λ t. zero_at a ∷ t) (take-zeroing (a + 1) n i l)
 
 -- after i writes of zeros
@@ -73,19 +67,13 @@ step {t = t} m {m' = m'} a n i h l e w =
     let w' = (subst (λ (x : Meaning). Writes t x m' (a + i) (zeros 512) (Ok tt)) e w).otherwise (length-zeros 512) (zeroed_inside m a n i h l) in
     (w'.1 ∙ zeroed_more m a i, w'.0)
 
-le_of_lt : {i n : ℕ} → i < n → i ≤ n
-le_of_lt h = omega arith
-
-more : {i n : ℕ} → i < n → i + 1 ≤ n
-more h = omega arith
-
 left : (m m' : Meaning) (a n i : ℕ) → i < n → OldOrNew (zeroed m a i) m' (a + i) (zeros 512) →
     (m' ≡ failed_with m (applied m.sectors (take i (zeroing a n))))
     ⊎ ((m.condition ≡ well) × (m' ≡ failed_with m (applied m.sectors (take (i + 1) (zeroing a n)))))
 left m m' a n i l (inl e) =
-    inl (e ∙ ap (λ (ws : List SectorWrite). failed_with m (applied m.sectors ws)) (sym (take-zeroing a n i (le_of_lt l))))
+    inl (e ∙ ap (λ (ws : List SectorWrite). failed_with m (applied m.sectors ws)) (sym (take-zeroing a n i (omega arith))))
 left m m' a n i l (inr p) =
-    inr (p.0, p.1 ∙ ap now_failed (zeroed_more m a i) ∙ ap (λ (ws : List SectorWrite). failed_with m (applied m.sectors ws)) (sym (take-zeroing a n (i + 1) (more l))))
+    inr (p.0, p.1 ∙ ap now_failed (zeroed_more m a i) ∙ ap (λ (ws : List SectorWrite). failed_with m (applied m.sectors ws)) (sym (take-zeroing a n (i + 1) (omega arith))))
 
 pub broke : {t u : Faults} (m : Meaning) {m₁ m' : Meaning} (a n i : ℕ) (f : Fault) → a + n ≤ length m.sectors → i < n → m₁ ≡ zeroed m a i →
     Within t u → (0 < i → MayAccept m.condition) →
@@ -112,7 +100,7 @@ zeroed_outside s a (suc n) k h =
 
 pub zeroed_within : (s : Sectors) (a n k : ℕ) → a ≤ k → k < a + n → k < length s → get_or (applied s (zeroing a n)) k [] ≡ zeros 512
 unfolding applied zeroing
-zeroed_within s a zero k h l i = absurd (let q : k < k = omega arith in none_of k q)
+zeroed_within s a zero k h l i = absurd (omega arith)
 zeroed_within s a (suc n) k h l i =
     elim (cases_eq k a) [
       | inl e ↦

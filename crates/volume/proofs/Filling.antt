@@ -12,7 +12,7 @@ use Rattle.layout.specs.Sizes.{block_of}
 use Rattle.layout.specs.declared.sizes.Layout.{Layout}
 use Rattle.runs.specs.Writes.{SectorWrite, write_of, applied, with_sectors, failed_with, Written, zeroing}
 use Rattle.runs.proofs.Runs.{length-zeroing, get_or-zeroing, take-zeroing}
-use Rattle.runs.proofs.Sequences.{take-append_add}
+use Rattle.std.proofs.Math.Seq.{take-append-add}
 use Rattle.places.specs.Places.{counted_up}
 use Rattle.places.specs.SlotWrites.{SlotWrite, fill, all_written}
 use Rattle.places.proofs.Lists.{length-counted, get_or-counted}
@@ -120,7 +120,7 @@ tail b w h =
     let e : length b + (w - length b) ≡ w = omega arith in
     let l : w - length b ≤ w = omega arith in
     ap (λ (z : List ℕ). b ++ z) (drop-zeros (length b) w ∙ sym (take-zeros (w - length b) w l))
-    ∙ sym (take-append_add b (zeros w) (w - length b)) ∙ ap (λ (n : ℕ). take n (b ++ zeros w)) e
+    ∙ sym (take-append-add b (zeros w) (w - length b)) ∙ ap (λ (n : ℕ). take n (b ++ zeros w)) e
 
 pub chunk_padded : (b : List ℕ) → length b ≤ 512 → b ++ drop (length b) (zeros 512) ≡ chunk b 0
 unfolding chunk

@@ -10,7 +10,7 @@ use Rattle.layout.specs.Bytes.{part}
 use Rattle.layout.specs.Sizes.{layout_of, place_of, block_of}
 use Rattle.layout.specs.declared.sizes.Layout.{Layout}
 use Rattle.runs.specs.Writes.{with_sectors, failed_with}
-use Rattle.runs.proofs.Sequences.{take-append_add}
+use Rattle.std.proofs.Math.Seq.{take-append-add}
 use Rattle.entries.specs.Entry.{entry_in}
 use Rattle.entries.specs.State.{lawful_fields, live_entry, state_by, state_of}
 use Rattle.entries.specs.declared.entry.Entry.{Entry}
@@ -53,7 +53,7 @@ performed_condition p = ap (λ (x : Meaning). x.condition) p.leaves
 -- a first part of the second writes, in the whole
 put_on : (c : Layout) (m : Meaning) (ws vs : List SlotWrite) (j : ℕ) →
     failed_with m (all_written c (all_written c m.sectors ws) (take j vs)) ≡ failed_with m (all_written c m.sectors (take (length ws + j) (ws ++ vs)))
-put_on c m ws vs j = ap (failed_with m) (sym (ap (all_written c m.sectors) (take-append_add ws vs j) ∙ written_append c m.sectors ws (take j vs)))
+put_on c m ws vs j = ap (failed_with m) (sym (ap (all_written c m.sectors) (take-append-add ws vs j) ∙ written_append c m.sectors ws (take j vs)))
 
 regroup : (a b : ℕ) → a + (b + 1) ≡ (a + b) + 1
 regroup a b = omega arith
