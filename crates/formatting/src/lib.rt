@@ -19,12 +19,8 @@ pub fn format<D: SectorDevice>(device: &mut D, name: &[u8], id: &[u8]) -> Result
     ensures follows { OfSound D.SectorDevice device.old device.new (λ t m m'. Formats t m m' name.now id.now result) }
     ensures leaves { OfSound D.SectorDevice device.old device.new (λ t m m'. Leaves m m' (new_label (length m.sectors) m.geometry name.now id.now) result) }
 {
-    let Some(disk_name) = Name::new(name) else {
-        return Err(Refusal::Name);
-    };
-    let Some(disk_id) = DiskId::new(id) else {
-        return Err(Refusal::DiskId);
-    };
+    let disk_name = Name::new(name).ok_or(Refusal::Name)?;
+    let disk_id = DiskId::new(id).ok_or(Refusal::DiskId)?;
     let layout = Layout::of(device.size());
     if layout.slots == 0 {
         return Err(Refusal::TooSmall);
@@ -45,8 +41,7 @@ fn write_card<D: SectorDevice>(device: &mut D, label: &Label) -> Result<(), Faul
     ensures writes { OfSound D.SectorDevice device.old device.new (λ t m m'. 0 < length m.sectors → label.now.layout.area ≤ length m.sectors → Written t m m' (format_writes label.now) result) }
 {
     write_zeros(device, 0, u32::from(label.layout.area))?;
-    device.write(0, &label.to_sector())?;
-    Ok(())
+    device.write(0, &label.to_sector())
 }
 
 // The label of the card on a device. Refuses a device whose sector 0 is no master sector, or that is too small for the
@@ -61,8 +56,5 @@ pub fn read_label<D: SectorDevice>(device: &mut D) -> Result<Label, Refusal>
     }
     let mut sector = zero_sector();
     device.read(0, &mut sector)?;
-    match Label::read(&sector, size) {
-        Ok(label) => Ok(label),
-        Err(offset) => Err(Refusal::Field(offset)),
-    }
+    Label::read(&sector, size).map_err(Refusal::Field)
 }
