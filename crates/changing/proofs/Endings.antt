@@ -1,5 +1,6 @@
 -- How calls end, test by test: what each exit of the code shows of the plan.
-use Rattle.std.proofs.Common.{◌≡◌, ℕ, Bool, true, false, cond, List, Some, None, Ok, Err, Option, sym, refl, ap, inl, inr, arith}
+use Rattle.std.proofs.Common.{◌≡◌, ℕ, Bool, true, false, cond, List, Some, None, Ok, Err, Option, sym, refl, ap, inr}
+use Rattle.std.proofs.lemmas.Option.{cond_some}
 use Rattle.device.specs.Faults.{Faults, Within}
 use Rattle.device.specs.Meaning.{Meaning}
 use Rattle.device.specs.declared.faults.Fault.{Fault}
@@ -18,27 +19,10 @@ use Rattle.volume.specs.Outcomes.{WasRead, Ended}
 use Rattle.volume.specs.Performing.{Performed, Cut, Looks}
 use Rattle.volume.proofs.Glue.{read_cut, cut_as, looks_between, performed_from, cut_from, cut_within}
 
-pub differ : {A : Type 0} → ◌≡◌ {A = ℕ} 0 1 → A
-differ e = absurd (omega arith)
-
 -- NAMES
 
 pub lawful_some : (n : List ℕ) (x : LawfulName) → name_of n ≡ Some x → (lawful_name n ≡ true) × (x.bytes ≡ padded n)
-lawful_some n x e = by (lawful_name n) e
-  where
-    by : (b : Bool) → cond b (Some (record { bytes = padded n })) None ≡ Some x → (b ≡ true) × (x.bytes ≡ padded n)
-    by true f = (refl, ap (λ (y : LawfulName). y.bytes) (sym (same f)))
-      where
-        same : {y z : LawfulName} → Some y ≡ Some z → y ≡ z
-        same f = cc
-    by false f = differ cc
-
-pub lawful_none : (n : List ℕ) → name_of n ≡ None → lawful_name n ≡ false
-lawful_none n e = by (lawful_name n) e
-  where
-    by : (b : Bool) → cond {A = Option LawfulName} b (Some (record { bytes = padded n })) None ≡ None → b ≡ false
-    by true f = differ cc
-    by false f = refl
+lawful_some n x e = let p = cond_some (lawful_name n) _ x e in (p.0, ap (λ (y : LawfulName). y.bytes) (sym p.1))
 
 -- PLANS THAT READ FIRST
 
@@ -67,10 +51,6 @@ read_ends t c V (go between ws a p) m m' q n f h r = record { by_device = cut_as
 
 -- ENDS OF A PLAN
 
--- a plan that refuses after reading
-pub refuse_ends : {A : Type 0} (t : Faults) (c : Layout) (V : A → Answer → Type 0) (x : Refusal) (m m' : Meaning) (q : Memory) → m' ≡ m → WasRead c m → Ended t c V (refuse x) m m' q q (Err x)
-refuse_ends t c V x m m' q e w = inl (record { with_it = refl; was_read = w; device = e; memory = refl })
-
 -- a plan whose writes follow a pass over the directory, which left the device as it was
 pub go_ends : {A : Type 0} (t : Faults) (c : Layout) (V : A → Answer → Type 0) (ws : List SlotWrite) (a : Answer) (p : Memory) (m m₁ m' : Meaning) (q : Memory) (v : A) → V v a → m₁ ≡ m →
     WasRead c m → Performed c m₁ m' ws → Ended t c V (go at_first ws a p) m m' q p (Ok v)
@@ -81,10 +61,6 @@ pub go_cut : {A : Type 0} (t u : Faults) (c : Layout) (V : A → Answer → Type
 go_cut t u c V rs ws a p m m₁ m' q f e w k y = record { by_device = cut_as k (cut_within w (cut_from e y)); memory = refl }
 
 -- THE OPEN JOB
-
-pub named_shut_open : (o : Option OpenJob) (n : List ℕ) (p : Plan) → open_named o n ≡ true → named_shut o n p ≡ decline Open
-named_shut_open None n p e = differ cc
-named_shut_open (Some o) n p e = ap (λ (b : Bool). cond b (decline Open) p) e
 
 pub named_shut_not : (o : Option OpenJob) (n : List ℕ) (p : Plan) → open_named o n ≡ false → named_shut o n p ≡ p
 named_shut_not None n p e = refl

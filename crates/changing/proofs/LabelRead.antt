@@ -16,9 +16,6 @@ use Rattle.plans.specs.Plans.{mount_plan, mount_by}
 use Rattle.volume.specs.Outcomes.{Ended, Performs, Plain}
 use Rattle.volume.proofs.Glue.{read_cut}
 
-differ : {A : Type 0} → ◌≡◌ {A = ℕ} 0 1 → A
-differ e = absurd (omega arith)
-
 -- what is kept once a mount has ended
 abbrev pub kept_by : Memory → Result Label Refusal → Memory
 kept_by q (Ok l) = mounted l.layout.sectors
@@ -47,11 +44,11 @@ by_sector t m m' q (Ok l) n b None e (inl x) =
       was_read = λ _. x.0;
       memory = ap (λ (y : Label). mounted y.layout.sectors) (same_label x.1);
     }
-by_sector t m m' q (Err y) n b None e (inl x) = differ (let z = x.1 in cc)
-by_sector t m m' q (Ok l) n b (Some k) e (inl x) = differ (let z = x.1 in cc)
+by_sector t m m' q (Err y) n b None e (inl x) = cc
+by_sector t m m' q (Ok l) n b (Some k) e (inl x) = cc
 by_sector t m m' q (Err y) n b (Some k) e (inl x) =
     inl (record { with_it = same_error x.1; was_read = λ _. x.0; device = x.2; memory = refl })
-by_sector t m m' q (Ok l) n b o e (inr x) = differ (let z = x.1 in cc)
+by_sector t m m' q (Ok l) n b o e (inr x) = cc
 by_sector t m m' q (Err y) n b None e (inr x) =
     subst (λ (z : Refusal). Ended t (card_layout q) Plain (mount_by None (double_at b 15)) m m' q q (Err z)) (sym (same_error x.1))
     (record { by_device = read_cut (record { refusable = x.2; names = x.3; leaves = x.4 }); memory = refl })
@@ -62,7 +59,7 @@ by_sector t m m' q (Err y) n b (Some k) e (inr x) =
 by_sectors : (t : Faults) (m m' : Meaning) (q : Memory) (r : Result Label Refusal) (s : Sectors) → m.sectors ≡ s → ReadsLabel t m m' r →
     Ended t (card_layout q) Plain (mount_plan s) m m' q (kept_by q r) (plainly r)
 unfolding mount_plan
-by_sectors t m m' q (Ok l) [] e x = differ (let z = (x.no_sectors (ap length e)).0 in cc)
+by_sectors t m m' q (Ok l) [] e x = let z = (x.no_sectors (ap length e)).0 in cc
 by_sectors t m m' q (Err y) [] e x =
     let z = x.no_sectors (ap length e) in
     (same_error z.0, record { device = z.1; memory = refl })

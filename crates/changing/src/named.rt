@@ -13,11 +13,7 @@ use volume::{Found, Memory, find};
 pub(crate) fn is_open(memory: &Memory, name: &[u8; 16]) -> bool
     ensures { result ≡ open_named (kept memory.now).job name.now }
 {
-    let job = memory.job;
-    match job {
-        Some(job) => *name == job.name,
-        None => false,
-    }
+    memory.job.is_some_and(|job| *name == job.name)
 }
 
 // The job of a name, which may not be open: its slot and its entry.
@@ -29,15 +25,9 @@ pub(crate) fn find_shut<D: SectorDevice>(
     ensures keeps { Keeps D.SectorDevice device.old device.new }
     ensures finds { OfSound D.SectorDevice device.old device.new (λ t m m'. memory.now.size ≤ length m.sectors → FindsShut t m m' (kept memory.now) name.now result) }
 {
-    let Some(name) = Name::new(name) else {
-        return Err(Refusal::Name);
-    };
-    let name = name.padded();
+    let name = Name::new(name).ok_or(Refusal::Name)?.padded();
     if is_open(memory, &name) {
         return Err(Refusal::Open);
     }
-    let Some(found) = find(device, &Layout::of(memory.size), &name)? else {
-        return Err(Refusal::NoJob);
-    };
-    Ok(found)
+    find(device, &Layout::of(memory.size), &name)?.ok_or(Refusal::NoJob)
 }
