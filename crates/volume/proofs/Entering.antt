@@ -1,6 +1,5 @@
 -- One write, and the entry of a slot read and written.
-use Rattle.std.proofs.Common.{◌≡◌, ℕ, ◌<◌, List, [], ◌∷◌, length, set, Ok, Err, Result, sym, refl, ap, ◌∙◌, subst, inl, inr, arith, lit<}
-use Rattle.std.proofs.lemmas.List.{get_or-set_same}
+use Rattle.std.proofs.Common.{◌≡◌, ℕ, ◌<◌, List, [], ◌∷◌, length, set, Ok, Err, Result, sym, ap, ◌∙◌, subst, inl, inr, arith, lit<}
 use Rattle.device.specs.Faults.{Faults, Within}
 use Rattle.device.specs.Meaning.{Meaning}
 use Rattle.device.specs.Transfers as transfers
@@ -10,16 +9,13 @@ use Rattle.layout.specs.Bytes.{part}
 use Rattle.layout.specs.Sizes.{place_of}
 use Rattle.layout.specs.declared.sizes.Layout.{Layout}
 use Rattle.runs.specs.Writes.{with_sectors, failed_with}
-use Rattle.entries.specs.Entry.{entry_in, entry_bytes}
+use Rattle.entries.specs.Entry.{entry_in}
 use Rattle.entries.specs.declared.entry.Entry.{Entry}
-use Rattle.places.specs.SlotWrites.{SlotWrite, spliced, written}
-use Rattle.plans.specs.Plans.{Reads, for_entries, entering}
-use Rattle.volume.specs.Directory.{directory_sector, ReadRefused, Holds, ReadEntry}
+use Rattle.places.specs.SlotWrites.{SlotWrite, written}
+use Rattle.plans.specs.Plans.{Reads}
+use Rattle.volume.specs.Directory.{ReadEntry}
 use Rattle.volume.specs.Performing.{sector_of, at_write, Runs}
 use Rattle.volume.proofs.Glue.{entry_at}
-
-none_below : 0 < 0 → ⊥
-none_below h = omega arith
 
 -- one write: sector n and the bytes b are what the layout says of it
 pub one_runs : {t u : Faults} (c : Layout) (rs : Reads) {m m' : Meaning} {n : ℕ} {b : List ℕ} (w : SlotWrite) (r : Result (Unit {0}) Fault) → Within u t →
@@ -33,7 +29,7 @@ one_runs {t = t} c rs {m = m} {n = n} w (Err f) y e i l h x =
     at_write (record {
       which = 0;
       is_one = lit< tt;
-      accepted = λ z. absurd (none_below z);
+      accepted = λ z. absurd (omega arith);
       refusable = a.0;
       names = subst (λ (k : ℕ). t Write k f) i (y Write n f a.1);
       leaves = elim a.2 [ inl o ↦ inl o | inr o ↦ inr (o.0, o.1 ∙ ap (failed_with m) e) ];
@@ -45,31 +41,6 @@ reads_at {t = t} {m = m} {m' = m'} {b = b} {b' = b'} {r = r} e x = subst (λ (k 
 
 pub writes_at : {t : Faults} {m m' : Meaning} {n n' : ℕ} {b : List ℕ} {r : Result (Unit {0}) Fault} → n ≡ n' → transfers.Writes t m m' n b r → transfers.Writes t m m' n' b r
 writes_at {t = t} {m = m} {m' = m'} {b = b} {r = r} e x = subst (λ (k : ℕ). transfers.Writes t m m' k b r) e x
-
--- a read that is refused, of a sector that is there
-pub read_refused : {t : Faults} {m m' : Meaning} {n : ℕ} {b b' : List ℕ} {f : Fault} → length b ≡ 512 → n < length m.sectors →
-    transfers.Reads t m m' n b b' (Err f) → ReadRefused t m m' n f
-read_refused l h r = let a = r.otherwise l h in record { refusable = a.0; names = a.1; leaves = a.3 }
-
--- a directory sector read, one entry changed, and written back
-pub entered : {t u : Faults} (c : Layout) {m m₁ m' : Meaning} (k : ℕ) (e : Entry) {b₀ b₁ b₂ : List ℕ} (r : Result (Unit {0}) Fault) →
-    length b₀ ≡ 512 → length b₂ ≡ 512 → (place_of k).sector < length m.sectors → Within u t →
-    transfers.Reads t m m₁ (place_of k).sector b₀ b₁ (Ok tt) → b₂ ≡ spliced b₁ (place_of k).offset (entry_bytes e) →
-    transfers.Writes u m₁ m' (place_of k).sector b₂ r → Runs t c for_entries m m' (entering k e ∷ []) r
-entered {u = u} c {m = m} {m' = m'} k e {b₂ = b₂} r l l' h y x q w =
-    let a = x.otherwise l h in
-    let w₁ = subst (λ (z : Meaning). transfers.Writes u z m' (place_of k).sector b₂ r) a.2 w in
-    one_runs c for_entries (entering k e) r y
-    (ap (set m.sectors (place_of k).sector) (q ∙ ap (λ (z : List ℕ). spliced z (place_of k).offset (entry_bytes e)) a.1)) refl l' h w₁
-
--- then the buffer is what lies there
-pub held_after : {t u : Faults} {m m₁ m' : Meaning} (k : ℕ) {b₀ b₁ b₂ : List ℕ} (r : Result (Unit {0}) Fault) →
-    length b₀ ≡ 512 → length b₂ ≡ 512 → (place_of k).sector < length m.sectors →
-    transfers.Reads t m m₁ (place_of k).sector b₀ b₁ (Ok tt) → transfers.Writes u m₁ m' (place_of k).sector b₂ r → Holds m' k b₂ r
-held_after {u = u} {m = m} {m' = m'} k {b₂ = b₂} (Ok v) l l' h x w =
-    let w₁ = (subst (λ (z : Meaning). transfers.Writes u z m' (place_of k).sector b₂ (Ok v)) (x.otherwise l h).2 w).otherwise l' h in
-    sym (ap (λ (z : Meaning). directory_sector z.sectors k) w₁.1 ∙ get_or-set_same m.sectors (place_of k).sector b₂ [] h)
-held_after k (Err f) l l' h x w = tt
 
 -- the entry of a slot, out of its directory sector
 pub entry_read : {t : Faults} (c : Layout) {m m₁ : Meaning} (k : ℕ) {b₀ b₁ : List ℕ} {e : Entry} → k < c.slots → length b₀ ≡ 512 → (place_of k).sector < length m.sectors →

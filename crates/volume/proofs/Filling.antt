@@ -1,13 +1,13 @@
 -- The sectors of a block, written upwards.
 use Rattle.std.proofs.Common.{◌≡◌, ℕ, zero, suc, ◌+◌, ◌-◌, ◌*◌, ◌/◌, ◌<◌, ◌≤◌, min, List, [], ◌∷◌, ◌++◌, length, get_or, take, drop, set, Ok, Err, Result, sym, refl, ap, ◌∙◌, subst, ap₂, inl, inr, append_assoc, append-nil, zero-add, arith}
-use Rattle.std.proofs.lemmas.List.{length-append, length-drop, length-take-le, take_at, drop_at, drop_all, drop-drop, take-append-le}
+use Rattle.std.proofs.lemmas.List.{length-append, length-drop, take_at, drop_at, drop_all, drop-drop, take-append-le}
 use Rattle.std.proofs.lemmas.Bool.{cases_lt}
 use Rattle.device.specs.Faults.{Faults, Within}
 use Rattle.device.specs.Meaning.{Meaning, Sectors, zeros}
 use Rattle.device.specs.Transfers.{Writes}
 use Rattle.device.specs.declared.faults.Act.TheVariants.{Write}
 use Rattle.device.specs.declared.faults.Fault.{Fault}
-use Rattle.device.proofs.Zeros.{length-zeros, take-zeros, drop-zeros}
+use Rattle.device.proofs.Zeros.{take-zeros, drop-zeros}
 use Rattle.layout.specs.Sizes.{block_of}
 use Rattle.layout.specs.declared.sizes.Layout.{Layout}
 use Rattle.runs.specs.Writes.{SectorWrite, write_of, applied, with_sectors, failed_with, Written, zeroing}
@@ -15,8 +15,9 @@ use Rattle.runs.proofs.Runs.{length-zeroing, get_or-zeroing, take-zeroing}
 use Rattle.std.proofs.Math.Seq.{take-append-add}
 use Rattle.places.specs.Places.{counted_up}
 use Rattle.places.specs.SlotWrites.{SlotWrite, fill, all_written}
-use Rattle.places.proofs.Lists.{length-counted, get_or-counted}
+use Rattle.places.proofs.Lists.{get_or-counted}
 use Rattle.plans.specs.Plans.{Reads, never, to_slot, filling, chunk, zero_chunk}
+use Rattle.plans.proofs.Blocks.{length-filling, take-filling, length-chunk}
 use Rattle.volume.specs.Directory.{Room}
 use Rattle.volume.specs.Performing.{Performed, sector_of, no_write, Cut, at_write, Runs}
 use Rattle.volume.proofs.Glue.{performed_performed, performed_cut, performed_none, cut_more, room_after, looks_never}
@@ -39,10 +40,6 @@ counted_split g a (suc j) r =
     let y : suc a + j ≡ a + suc j = omega arith in
     ap (counted_up g a) x ∙ ap (λ t. g a ∷ t) (counted_split g (suc a) j r ∙ ap (λ (i : ℕ). counted_up g (suc a) j ++ counted_up g i r) y)
 
-pub length-filling : (k f : ℕ) (x : ℕ → List ℕ) (n : ℕ) → length (filling k f x n) ≡ n
-unfolding filling
-length-filling k f x n = length-counted (wrote k f x) 0 n
-
 pub get_or-filling : (k f : ℕ) (x : ℕ → List ℕ) (n i : ℕ) → i < n → get_or (filling k f x n) i no_write ≡ wrote k f x i
 unfolding filling
 get_or-filling k f x n i h = get_or-counted (wrote k f x) 0 n i no_write h ∙ ap (wrote k f x) (zero-add i)
@@ -58,9 +55,6 @@ filling_rest k f x i n h =
     let e : n ≡ i + (n - i) = omega arith in
     ap (counted_up (wrote k f x) 0) e ∙ counted_split (wrote k f x) 0 i (n - i)
 
-pub take-filling : (k f : ℕ) (x : ℕ → List ℕ) (i n : ℕ) → i ≤ n → take i (filling k f x n) ≡ filling k f x i
-take-filling k f x i n h = ap (take i) (filling_rest k f x i n h) ∙ take_at (filling k f x i) _ i (length-filling k f x i)
-
 pub filling_none : (c : Layout) (m : Meaning) (k f : ℕ) (x : ℕ → List ℕ) → Performed c m m (filling k f x 0)
 unfolding filling
 filling_none c m k f x = performed_none c m
@@ -72,12 +66,6 @@ pub cut_of : {t : Faults} {c : Layout} {rs : Reads} {m m' : Meaning} {ws vs : Li
 cut_of {t = t} {c = c} {rs = rs} {m = m} {m' = m'} {f = f} e p = subst (λ (ws : List SlotWrite). Cut t c rs m m' ws f) e p
 
 -- ONE SECTOR FURTHER
-
-up : {i n : ℕ} → i < n → i + 1 ≤ n
-up h = omega arith
-
-number : (a f i : ℕ) → (a + f) + i ≡ a + (f + i)
-number a f i = omega arith
 
 -- sector f + i of the block written, behind i others
 wrote_runs : {t u : Faults} (c : Layout) {m m₁ m₂ : Meaning} (k f : ℕ) (x : ℕ → List ℕ) (i : ℕ) (r : Result (Unit {0}) Fault) →
@@ -99,16 +87,10 @@ filled_cut {t = t} c {m = m} {m₂ = m₂} k f x i n {g = g} y h l b j e p w =
     let rest = counted_up (wrote k f x) (0 + (i + 1)) (n - (i + 1)) in
     let q : Cut t c never m m₂ (ws ++ vs) g =
     performed_cut y (λ j z. looks_never never vs (ws ++ vs) j (length ws + j) z) p (wrote_runs c k f x i (Err g) h l b e (λ a n f q. q) p w) in
-    cut_of (sym (filling_rest k f x (i + 1) n (up j)))
+    cut_of (sym (filling_rest k f x (i + 1) n (omega arith)))
     (cut_more rest (λ j _ z. looks_never never (filling k f x (i + 1)) (filling k f x (i + 1) ++ rest) j j z) (cut_of (sym (filling_more k f x i)) q))
 
 -- THE BYTES
-
-pub length-chunk : (b : List ℕ) (i : ℕ) → length (chunk b i) ≡ 512
-unfolding chunk
-length-chunk b i =
-    let x = drop (512 * i) b in
-    length-take-le 512 (x ++ zeros 512) (rw (length-append x (zeros 512), length-zeros 512) (omega arith))
 
 pub chunk_whole : (b : List ℕ) → length b ≡ 512 → chunk b 0 ≡ b
 unfolding chunk
@@ -181,9 +163,6 @@ next_lt {b = b} {r = r} {i = i} x =
 pub next_le : {b r p q : List ℕ} {i n : ℕ} → n ≡ i + 1 → Next b r p q i → n ≤ (length b + 511) / 512
 next_le e x = omega (arith, next_lt x)
 
-few : (a i : ℕ) → a ≤ 65535 → i < (a + 511) / 512 → 0 + i < 128
-few a i h l = omega arith
-
 placed : (a i j : ℕ) → i ≡ j → a + i ≡ a + (0 + j)
 placed a i j e = omega arith
 
@@ -199,18 +178,12 @@ next_writes {b = b} {r = r} {p = p} {q = q} {i = i} a j x e y w =
 pub data_more : {u : Faults} (c : Layout) {m m₁ m₂ : Meaning} (k : ℕ) {b r p q : List ℕ} {i n : ℕ} (j : ℕ) → Room c m → k < c.slots → length b ≤ 65535 → Next b r p q i → n ≡ block_of c k + j → j ≡ i →
     Performed c m m₁ (filling k 0 (chunk b) i) → Writes u m₁ m₂ n (chunk p 0) (Ok tt) → Performed c m m₂ (filling k 0 (chunk b) (i + 1))
 data_more c k {b = b} {i = i} j h l s x e y p w =
-    filled_more c k 0 (chunk b) i h l (few (length b) i s (next_lt x)) (length-chunk b i) p (next_writes (block_of c k) j x e y w)
+    filled_more c k 0 (chunk b) i h l (omega (arith, next_lt x)) (length-chunk b i) p (next_writes (block_of c k) j x e y w)
 
 pub data_cut : {t u : Faults} (c : Layout) {m m₁ m₂ : Meaning} (k : ℕ) {b r p q : List ℕ} {i n : ℕ} (j : ℕ) {g : Fault} → Within u t → Room c m → k < c.slots → length b ≤ 65535 → Next b r p q i →
     n ≡ block_of c k + j → j ≡ i → Performed c m m₁ (filling k 0 (chunk b) i) → Writes u m₁ m₂ n (chunk p 0) (Err g) → Cut t c never m m₂ (filling k 0 (chunk b) ((length b + 511) / 512)) g
 data_cut c k {b = b} {i = i} j y h l s x e z p w =
-    filled_cut c k 0 (chunk b) i ((length b + 511) / 512) y h l (few (length b) i s (next_lt x)) (next_lt x) (length-chunk b i) p (next_writes (block_of c k) j x e z w)
-
--- nothing is left
-pub data_all : (b r : List ℕ) (i : ℕ) → r ≡ drop (512 * i) b → length r ≡ 0 → i ≤ (length b + 511) / 512 → i ≡ (length b + 511) / 512
-data_all b r i e n h =
-    let l : length r ≡ length b - 512 * i = ap length e ∙ length-drop (512 * i) b in
-    omega arith
+    filled_cut c k 0 (chunk b) i ((length b + 511) / 512) y h l (omega (arith, next_lt x)) (next_lt x) (length-chunk b i) p (next_writes (block_of c k) j x e z w)
 
 -- ZEROS
 
@@ -228,10 +201,7 @@ zeroed c k s n = zeroing_written c k s (block_of c k) 0 n (omega arith)
 
 zeroed_first : (c : Layout) (k : ℕ) (s : Sectors) (i n : ℕ) → i ≤ n → applied s (take i (zeroing (block_of c k) n)) ≡ all_written c s (take i (filling k 0 zero_chunk n))
 zeroed_first c k s i n h =
-    ap (applied s) (take-zeroing (block_of c k) n i h) ∙ zeroed c k s i ∙ ap (all_written c s) (sym (take-filling k 0 zero_chunk i n h))
-
-lower : {i n : ℕ} → i < n → i ≤ n
-lower h = omega arith
+    ap (applied s) (take-zeroing (block_of c k) n i h) ∙ zeroed c k s i ∙ ap (all_written c s) (sym (take-filling k 0 zero_chunk n i h))
 
 -- zeros into the first sectors of a block
 pub zeroed_runs : (t : Faults) (c : Layout) (m m' : Meaning) (k n : ℕ) (r : Result (Unit {0}) Fault) → Written t m m' (zeroing (block_of c k) n) r → Runs t c never m m' (filling k 0 zero_chunk n) r
@@ -252,8 +222,8 @@ zeroed_runs t c m m' k n (Err f) p =
       refusable = p.refusable;
       names = subst (λ (j : ℕ). t Write j f) e p.names;
       leaves = elim p.leaves [
-        | inl q ↦ inl (q ∙ ap (failed_with m) (zeroed_first c k m.sectors i n (lower l)))
-        | inr q ↦ inr (q.0, q.1 ∙ ap (failed_with m) (zeroed_first c k m.sectors (i + 1) n (up l)))
+        | inl q ↦ inl (q ∙ ap (failed_with m) (zeroed_first c k m.sectors i n (omega arith)))
+        | inr q ↦ inr (q.0, q.1 ∙ ap (failed_with m) (zeroed_first c k m.sectors (i + 1) n (omega arith)))
       ];
     })
 

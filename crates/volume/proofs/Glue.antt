@@ -1,7 +1,7 @@
 -- Steps put together: what follows all of some writes, and what cuts them off.
-use Rattle.std.proofs.Common.{◌≡◌, ℕ, zero, suc, ◌+◌, ◌<◌, ◌≤◌, Bool, true, false, ◌&&◌, ltb, ◌⊎◌, List, [], ◌∷◌, ◌++◌, length, take, drop, sym, refl, ap, ◌∙◌, subst, ap₂, inl, inr, arith, length-append, lt-ltb}
+use Rattle.std.proofs.Common.{◌≡◌, ℕ, zero, suc, ◌+◌, ◌<◌, ◌≤◌, Bool, ◌&&◌, ltb, List, [], ◌∷◌, ◌++◌, length, take, drop, sym, refl, ap, ◌∙◌, subst, ap₂, inl, inr, arith, length-append, lt-ltb, zero-add}
+use Rattle.std.proofs.lemmas.Bool.{cases_lt}
 use Rattle.std.proofs.lemmas.List.{get_or-append-add, get_or_append_left, take-append-le}
-use Rattle.std.specs.Str.{bytes_eq}
 use Rattle.device.specs.Faults.{Faults, Within}
 use Rattle.device.specs.Meaning.{Meaning, Sectors, MayAccept}
 use Rattle.device.specs.declared.faults.Act.TheVariants.{Read, Write}
@@ -15,12 +15,11 @@ use Rattle.entries.specs.Entry.{entry_in}
 use Rattle.entries.specs.State.{lawful_fields, live_entry, state_by, state_of}
 use Rattle.entries.specs.declared.entry.Entry.{Entry}
 use Rattle.entries.specs.declared.state.EntryState.{EntryState}
-use Rattle.entries.specs.declared.state.EntryState.TheVariants.{Empty, Held, Erased, Live, Damaged}
 use Rattle.places.specs.Places.{Place, place, places}
 use Rattle.places.specs.SlotWrites.{SlotWrite, written, all_written}
 use Rattle.places.proofs.Frames.{place_at, place_slot, place_first, length-all_written}
 use Rattle.plans.specs.Plans.{Reads, never, for_entries, at_first, between, place_in, entry_of}
-use Rattle.plans.specs.Slots.{Job, job_in, as_slot, slot_by, decoded, usable, named}
+use Rattle.plans.specs.Slots.{job_in, as_slot, slot_by, decoded}
 use Rattle.volume.specs.Directory.{Room, directory_sector, ReadRefused}
 use Rattle.volume.specs.Performing.{Performed, sector_of, no_write, Enters, Looks, Cut, at_write, at_read}
 
@@ -55,53 +54,30 @@ put_on : (c : Layout) (m : Meaning) (ws vs : List SlotWrite) (j : ℕ) →
     failed_with m (all_written c (all_written c m.sectors ws) (take j vs)) ≡ failed_with m (all_written c m.sectors (take (length ws + j) (ws ++ vs)))
 put_on c m ws vs j = ap (failed_with m) (sym (ap (all_written c m.sectors) (take-append-add ws vs j) ∙ written_append c m.sectors ws (take j vs)))
 
-regroup : (a b : ℕ) → a + (b + 1) ≡ (a + b) + 1
-regroup a b = omega arith
-
-some : {a b : ℕ} → 0 < a + b → (0 < a) ⊎ (0 < b)
-some h = grind arith
-
-later_lt : (ws vs : List SlotWrite) (j : ℕ) → j < length vs → length ws + j < length (ws ++ vs)
-later_lt ws vs j h = rw length-append (omega arith)
-
-later_le : (ws vs : List SlotWrite) (j : ℕ) → j ≤ length vs → length ws + j ≤ length (ws ++ vs)
-later_le ws vs j h = rw length-append (omega arith)
-
-first_lt : (ws vs : List SlotWrite) (j : ℕ) → j < length ws → j < length (ws ++ vs)
-first_lt ws vs j h = rw length-append (omega arith)
-
-first_le : (ws vs : List SlotWrite) (j : ℕ) → j ≤ length ws → j ≤ length (ws ++ vs)
-first_le ws vs j h = rw length-append (omega arith)
-
-one_more : {i n : ℕ} → i < n → i + 1 ≤ n
-one_more h = omega arith
-
-le_of_lt : {i n : ℕ} → i < n → i ≤ n
-le_of_lt h = omega arith
-
 after_cut : {t u : Faults} {c : Layout} {rs rs' : Reads} {m m₂ : Meaning} (ws : List SlotWrite) {vs : List SlotWrite} {f : Fault} → Within u t →
     ((j : ℕ) → Looks rs vs j → Looks rs' (ws ++ vs) (length ws + j)) → (0 < length ws → MayAccept m.condition) →
     Cut u c rs (with_sectors m (all_written c m.sectors ws)) m₂ vs f → Cut t c rs' m m₂ (ws ++ vs) f
 after_cut {u = u} {c = c} {m = m} ws {vs = vs} {f = f} w k a (at_write x) =
     let j = x.which in
+    let n : length ws + (j + 1) ≡ length ws + j + 1 = omega arith in
     at_write (record {
       which = length ws + j;
-      is_one = later_lt ws vs j x.is_one;
-      accepted = λ h. elim (some h) [ inl l ↦ a l | inr l ↦ x.accepted l ];
+      is_one = rw length-append (omega (arith, x.is_one));
+      accepted = λ h. elim (cases_lt 0 (length ws)) [ inl l ↦ a l | inr l ↦ x.accepted (omega arith) ];
       refusable = x.refusable;
       names = w Write _ f (subst (λ (v : SlotWrite). u Write (sector_of c v) f) (sym (get_or-append-add ws vs j no_write)) x.names);
       leaves = elim x.leaves [
         | inl e ↦ inl (e ∙ put_on c m ws vs j)
-        | inr e ↦ inr (e.0, e.1 ∙ put_on c m ws vs (j + 1) ∙ ap (λ (n : ℕ). failed_with m (all_written c m.sectors (take n (ws ++ vs)))) (regroup (length ws) j))
+        | inr e ↦ inr (e.0, e.1 ∙ put_on c m ws vs (j + 1) ∙ ap (λ (k : ℕ). failed_with m (all_written c m.sectors (take k (ws ++ vs)))) n)
       ];
     })
 after_cut {c = c} {m = m} ws {vs = vs} {f = f} w k a (at_read x) =
     let j = x.after in
     at_read (record {
       after = length ws + j;
-      are_some = later_le ws vs j x.are_some;
+      are_some = rw length-append (omega (arith, x.are_some));
       looks = k j x.looks;
-      accepted = λ h. elim (some h) [ inl l ↦ a l | inr l ↦ x.accepted l ];
+      accepted = λ h. elim (cases_lt 0 (length ws)) [ inl l ↦ a l | inr l ↦ x.accepted (omega arith) ];
       refusable = x.refusable;
       sector = x.sector;
       names = w Read _ f x.names;
@@ -122,20 +98,20 @@ cut_more {t = t} {c = c} {m = m} {ws = ws} {f = f} vs k (at_write x) =
     let j = x.which in
     at_write (record {
       which = j;
-      is_one = first_lt ws vs j x.is_one;
+      is_one = rw length-append (omega (arith, x.is_one));
       accepted = x.accepted;
       refusable = x.refusable;
       names = subst (λ (v : SlotWrite). t Write (sector_of c v) f) (sym (get_or_append_left ws vs no_write j x.is_one)) x.names;
       leaves = elim x.leaves [
-        | inl e ↦ inl (e ∙ ap (λ (ys : List SlotWrite). failed_with m (all_written c m.sectors ys)) (sym (take-append-le j ws vs (le_of_lt x.is_one))))
-        | inr e ↦ inr (e.0, e.1 ∙ ap (λ (ys : List SlotWrite). failed_with m (all_written c m.sectors ys)) (sym (take-append-le (j + 1) ws vs (one_more x.is_one))))
+        | inl e ↦ inl (e ∙ ap (λ (ys : List SlotWrite). failed_with m (all_written c m.sectors ys)) (sym (take-append-le j ws vs (omega (arith, x.is_one)))))
+        | inr e ↦ inr (e.0, e.1 ∙ ap (λ (ys : List SlotWrite). failed_with m (all_written c m.sectors ys)) (sym (take-append-le (j + 1) ws vs (omega (arith, x.is_one)))))
       ];
     })
 cut_more {c = c} {m = m} {ws = ws} vs k (at_read x) =
     let j = x.after in
     at_read (record {
       after = j;
-      are_some = first_le ws vs j x.are_some;
+      are_some = rw length-append (omega (arith, x.are_some));
       looks = k j x.are_some x.looks;
       accepted = x.accepted;
       refusable = x.refusable;
@@ -179,20 +155,14 @@ pub read_cut_at : {t : Faults} {c : Layout} (rs : Reads) {m m' : Meaning} {n : �
 read_cut_at rs {n = n} ws k r =
     at_read (record {
       after = 0;
-      are_some = nought ws;
+      are_some = omega arith;
       looks = k;
-      accepted = λ h. absurd (none_below h);
+      accepted = λ h. absurd (omega arith);
       refusable = r.refusable;
       sector = n;
       names = r.names;
       leaves = r.leaves;
     })
-  where
-    nought : (ws : List SlotWrite) → 0 ≤ length ws
-    nought ws = omega arith
-
-    none_below : 0 < 0 → ⊥
-    none_below h = omega arith
 
 pub read_cut : {t : Faults} {c : Layout} {m m' : Meaning} {n : ℕ} {ws : List SlotWrite} {f : Fault} → ReadRefused t m m' n f → Cut t c at_first m m' ws f
 read_cut {ws = ws} r = read_cut_at at_first ws (inl refl) r
@@ -211,16 +181,10 @@ cut_from {t = t} {c = c} {rs = rs} {m' = m'} {ws = ws} {f = f} e p = subst (λ (
 
 -- WHERE A CALL READS
 
-suc_plus : (n j : ℕ) → suc n + j ≡ suc (n + j)
-suc_plus n j = omega arith
-
-zero_plus : (j : ℕ) → j ≡ 0 + j
-zero_plus j = omega arith
-
 -- an entry that is written after some writes, and one among the first
 pub enters_later : (ws vs : List SlotWrite) (j : ℕ) → Enters vs j → Enters (ws ++ vs) (length ws + j)
-enters_later [] vs j h = subst (Enters vs) (zero_plus j) h
-enters_later (w ∷ ws) vs j h = subst (Enters (w ∷ (ws ++ vs))) (sym (suc_plus (length ws) j)) (enters_later ws vs j h)
+enters_later [] vs j h = rw zero-add h
+enters_later (w ∷ ws) vs j h = let e : suc (length ws + j) ≡ suc (length ws) + j = omega arith in subst (Enters (w ∷ (ws ++ vs))) e (enters_later ws vs j h)
 
 pub enters_first : (ws vs : List SlotWrite) (j : ℕ) → Enters ws j → Enters (ws ++ vs) j
 enters_first [] vs j h = absurd h
@@ -312,37 +276,3 @@ decoded_as c s k {e = y} h e f =
     decoded_at c s k h
     ∙ ap (λ (z : Entry). as_slot (state_of c k z) (job_in z (place_in (places c s) k).sectors)) (sym e)
     ∙ ap (λ (z : EntryState). as_slot z (job_in y (place_in (places c s) k).sectors)) (sym f)
-
--- the fields of a slot's job
-pub job_name : (e : Entry) (s : Sectors) → (job_in e s).name ≡ e.name
-unfolding job_in
-job_name e s = refl
-
--- whether a slot of this state can take a new job, and whether its job has this name
-abbrev pub usable_state : EntryState → Bool
-usable_state Empty = true
-usable_state (Held n) = false
-usable_state Erased = true
-usable_state Live = false
-usable_state Damaged = false
-
-abbrev pub named_state : List ℕ → EntryState → List ℕ → Bool
-named_state n Empty x = false
-named_state n (Held k) x = false
-named_state n Erased x = false
-named_state n Live x = bytes_eq n x
-named_state n Damaged x = false
-
-pub usable_as : (x : EntryState) (j : Job) → usable (as_slot x j) ≡ usable_state x
-usable_as Empty j = refl
-usable_as (Held n) j = refl
-usable_as Erased j = refl
-usable_as Live j = refl
-usable_as Damaged j = refl
-
-pub named_as : (n : List ℕ) (x : EntryState) (j : Job) → named n (as_slot x j) ≡ named_state n x j.name
-named_as n Empty j = refl
-named_as n (Held k) j = refl
-named_as n Erased j = refl
-named_as n Live j = refl
-named_as n Damaged j = refl

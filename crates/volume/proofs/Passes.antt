@@ -4,9 +4,7 @@ use Rattle.std.proofs.lemmas.List.{length-map, get_or-map, take_more, take_all, 
 use Rattle.std.proofs.lemmas.Bool.{cases_eq}
 use Rattle.std.specs.Option.{option_or}
 use Rattle.std.specs.Bool.{then_some}
-use Rattle.device.specs.Faults.{Faults, Within}
 use Rattle.device.specs.Meaning.{Meaning, Sectors, MayAccept}
-use Rattle.device.specs.declared.faults.Fault.{Fault}
 use Rattle.layout.specs.Bytes.{part}
 use Rattle.layout.specs.Sizes.{place_of}
 use Rattle.layout.specs.declared.sizes.Layout.{Layout}
@@ -18,9 +16,9 @@ use Rattle.places.specs.Places.{Place, places, no_place}
 use Rattle.places.proofs.Frames.{length-places}
 use Rattle.plans.specs.Plans.{place_in, entry_of}
 use Rattle.plans.specs.Slots.{Slot, empty, job_in, as_slot, decoded, slots_in, one_up, lowest}
-use Rattle.volume.specs.Directory.{Room, directory_sector, ReadRefused, Turned, found_in, Passed, InSlots}
+use Rattle.volume.specs.Directory.{Room, directory_sector, Turned, found_in, Passed, InSlots}
 use Rattle.volume.specs.declared.found.Found.{Found}
-use Rattle.volume.proofs.Glue.{room_same, read_refused_from, entry_at, decoded_as}
+use Rattle.volume.proofs.Glue.{room_same, entry_at, decoded_as}
 
 -- THE DIRECTORY SECTOR BY SECTOR
 
@@ -30,11 +28,8 @@ pub record Looked (m m₁ : Meaning) (k : ℕ) (b : List ℕ) : Type 0 where
   pub accepted : 0 < k → MayAccept m.condition
   pub holds : (k % 16 ≡ 0 → ⊥) → b ≡ directory_sector m.sectors k
 
-none_below : 0 < 0 → ⊥
-none_below h = omega arith
-
 pub looked_none : (m : Meaning) (b : List ℕ) → Looked m m 0 b
-looked_none m b = record { same = refl; accepted = λ h. absurd (none_below h); holds = λ h. absurd (h refl) }
+looked_none m b = record { same = refl; accepted = λ h. absurd (omega arith); holds = λ h. absurd (h refl) }
 
 inner : (k : ℕ) → (k % 16 ≡ 0 → ⊥) → 0 < k
 inner k h = elim (cases_eq k 0) [ inl e ↦ absurd (h (ap (λ (n : ℕ). n % 16) e)) | inr n ↦ omega arith ]
@@ -60,10 +55,6 @@ looked_more {m = m} {m₂ = m₂} {k = k} {b = b} {b' = b'} p q =
 -- the sector of a slot is still there
 pub looked_in : {c : Layout} {m m₁ : Meaning} {k : ℕ} {b : List ℕ} → Looked m m₁ k b → Room c m → k < c.slots → (place_of k).sector < length m₁.sectors
 looked_in {c = c} {k = k} p h l = (room_same {c = c} p.same h).listed k l
-
--- a refusal ends the pass
-pub looked_refused : {t u : Faults} {m m₁ m₂ : Meaning} {k : ℕ} {b : List ℕ} {f : Fault} → Within u t → Looked m m₁ k b → (k % 16 ≡ 0) × ReadRefused u m₁ m₂ (place_of k).sector f → (n : ℕ) × ReadRefused t m m₂ n f
-looked_refused {k = k} w p q = ((place_of k).sector, read_refused_from w p.same q.1)
 
 -- the pass is over
 pub passed : {c : Layout} {m m₁ : Meaning} {k : ℕ} {b : List ℕ} → Looked m m₁ k b → (0 < c.slots → 0 < k) → Passed c m m₁
@@ -103,12 +94,12 @@ lowest_push p (x ∷ ys) y = at (p x) (lowest_push p ys y)
     at false e = ap one_up e ∙ one_up_or (lowest p ys) (p y) (length ys)
 
 lowest_first : {X : Type 0} (p : X → Bool) (ys zs : List X) (k : ℕ) → lowest p ys ≡ Some k → lowest p (ys ++ zs) ≡ Some k
-lowest_first p [] zs k e = absurd (let z : ◌≡◌ {A = ℕ} 0 1 = cc in omega arith)
+lowest_first p [] zs k e = cc
 lowest_first p (x ∷ ys) zs k e = at (p x) (lowest p ys) (lowest_first p ys zs) k e
   where
     at : (b : Bool) (o : Option ℕ) → ((j : ℕ) → o ≡ Some j → lowest p (ys ++ zs) ≡ Some j) → (k : ℕ) → cond b (Some 0) (one_up o) ≡ Some k → cond b (Some 0) (one_up (lowest p (ys ++ zs))) ≡ Some k
     at true o f k e = e
-    at false None f k e = absurd (let z : ◌≡◌ {A = ℕ} 0 1 = cc in omega arith)
+    at false None f k e = cc
     at false (Some j) f k e = ap one_up (f j refl) ∙ e
 
 -- the lowest of the first k slots that passes
@@ -177,19 +168,10 @@ sought_all p c s k e z = found_all p c s k e (ap (found_in (places c s)) (sym z)
 
 -- WHATEVER THE DEVICE
 
-wider : {j k : ℕ} → j < k → j < k + 1
-wider h = omega arith
-
-last : (k : ℕ) → k < k + 1
-last k = omega arith
-
 in_or : (o : Option Found) (h : Bool) (k : ℕ) (e : Entry) → InSlots k o → InSlots (k + 1) (option_or o (then_some h (found_at k e)))
-in_or (Some v) h k e p = wider p
-in_or None true k e p = last k
+in_or (Some v) h k e p = omega arith
+in_or None true k e p = omega arith
 in_or None false k e p = tt
 
 pub in_more : (o : Option Found) {o' w : Option Found} (h : Bool) (k : ℕ) (e : Entry) → w ≡ then_some h (found_at k e) → o' ≡ option_or o w → InSlots k o → InSlots (k + 1) o'
 in_more o h k e w q p = subst (InSlots (k + 1)) (sym (q ∙ ap (option_or o) w)) (in_or o h k e p)
-
-pub in_all : (o : Option Found) {k n : ℕ} → k ≡ n → InSlots k o → InSlots n o
-in_all o e p = subst (λ (n : ℕ). InSlots n o) e p

@@ -12,11 +12,11 @@ use device::{Fault, SectorDevice, zero_sector};
 use layout::Layout;
 use runs::write_zeros;
 
-// A sector of a slot's block.
-fn block_sector(layout: &Layout, slot: u16, i: u8) -> u32
-    ensures { result ≡ block_of layout.now slot + i }
+// A sector of a slot's block. The layout comes by value, so that the sum is known to fit.
+fn block_sector(layout: Layout, slot: u16, i: u8) -> u32
+    ensures { result ≡ block_of layout slot + i }
 {
-    u32::from(layout.area) + 128 * u32::from(slot) + u32::from(i)
+    layout.block(slot) + u32::from(i)
 }
 
 // At most a sector's bytes, zeros behind them.
@@ -53,7 +53,7 @@ pub fn write_data<D: SectorDevice>(
     ensures runs { OfSound D.SectorDevice device.old device.new (λ t m m'. slot < layout.now.slots → Room layout.now m → Runs t layout.now never m m' (filling slot 0 (chunk bytes.now) (extent_of (length bytes.now)).0) result) }
 {
     for (i, part) in bytes.chunks(512).enumerate() {
-        write_part(device, block_sector(layout, slot, i as u8), part)?;
+        write_part(device, block_sector(*layout, slot, i as u8), part)?;
     }
     Ok(())
 }
@@ -71,6 +71,6 @@ pub fn zero_block<D: SectorDevice>(
     write_zeros(
         device,
         layout.block(slot),
-        block_sector(layout, slot, count),
+        block_sector(*layout, slot, count),
     )
 }

@@ -3,7 +3,6 @@ ghost use Rattle.std.specs.Prelude.{◌≡◌, Ok, Err};
 ghost use Rattle.device.specs.Calls.{Keeps, OfSound};
 ghost use Rattle.device.specs.Meaning.{Sectors};
 ghost use Rattle.plans.specs.Slots.{Job, job_in, as_slot, usable, named};
-ghost use Rattle.std.specs.Str.{bytes_eq};
 ghost use Rattle.volume.specs.Directory.{Room, Scans, Seeks, InSlots, ScanIn, FoundIn};
 
 use crate::directory::{entry_in, turn_to};
@@ -12,18 +11,11 @@ use device::{Fault, SectorDevice, zero_sector};
 use entries::{Entry, EntryState};
 use layout::Layout;
 
-// Whether two padded names are equal.
-fn same_name(a: &[u8; 16], b: &[u8; 16]) -> bool
-    ensures { result ≡ bytes_eq a.now b.now }
-{
-    a == b
-}
-
 // Whether an entry of this state is that of a live job of the name.
 fn is_named(entry: &Entry, state: EntryState, name: &[u8; 16]) -> bool
     ensures { (s : Sectors) → result ≡ named name.now (as_slot state (job_in entry.now s)) }
 {
-    matches!(state, EntryState::Live) && same_name(name, &entry.name)
+    state == EntryState::Live && *name == entry.name
 }
 
 // Whether a new job can take a slot of this state.

@@ -1,6 +1,6 @@
 -- The slots below this one were looked at.
 use Rattle.std.proofs.Common.{◌≡◌, length}
-use Rattle.device.specs.Faults.{Within}
+use Rattle.device.specs.Calls.{Keeps, OfSound}
 use Rattle.places.specs.Places.{places}
 use Rattle.plans.specs.Slots.{usable, named}
 use Rattle.volume.specs.Directory.{Room, found_in, InSlots}
@@ -10,15 +10,15 @@ use Rattle.volume.proofs.search.scan.Given as goal
 abbrev pub invariant-loop-slot : goal.invariant-loop-slot
 invariant-loop-slot g l =
     let d = g.D.SectorDevice in
-    let m = d.meaning l.initial.device in
-    let ps = places l.layout m.sectors in
-    (length l.sector ≡ 512)
-    × (InSlots l.slot l.scan.one × InSlots l.slot l.scan.other × InSlots l.slot l.scan.room)
-    × (d.sound l.initial.device →
-    d.sound l.device
-    × Within (d.faults l.device) (d.faults l.initial.device)
-    × (Room l.layout m →
-    Looked m (d.meaning l.device) l.slot l.sector
-    × (l.scan.one ≡ found_in ps (lowest_below (named l.one) ps l.slot))
-    × (l.scan.other ≡ found_in ps (lowest_below (named l.other) ps l.slot))
-    × (l.scan.room ≡ found_in ps (lowest_below usable ps l.slot))))
+    let v = l.scan in
+    record {
+      long : length l.sector ≡ 512;
+      inside : InSlots l.slot v.one × InSlots l.slot v.other × InSlots l.slot v.room;
+      keeps : Keeps d l.initial.device l.device;
+      looked : OfSound d l.initial.device l.device (λ t m m'. Room l.layout m →
+          (let ps = places l.layout m.sectors in
+          Looked m m' l.slot l.sector
+          × (v.one ≡ found_in ps (lowest_below (named l.one) ps l.slot))
+          × (v.other ≡ found_in ps (lowest_below (named l.other) ps l.slot))
+          × (v.room ≡ found_in ps (lowest_below usable ps l.slot))));
+    }
