@@ -1,11 +1,11 @@
 // The sectors of a slot's block.
-ghost use Rattle.std.specs.Prelude.{◌≡◌, ◌+◌, ◌<◌, ◌≤◌, length};
+ghost use Rattle.std.specs.Prelude.{◌≡◌, ◌+◌, ◌≤◌, length};
 ghost use Rattle.device.specs.Calls.{Keeps, OfSound};
 ghost use Rattle.device.specs.Transfers.{Writes};
 ghost use Rattle.layout.specs.Extents.{extent_of};
 ghost use Rattle.layout.specs.Sizes.{block_of};
 ghost use Rattle.plans.specs.Plans.{never, filling, chunk, zero_chunk};
-ghost use Rattle.volume.specs.Directory.{Room};
+ghost use Rattle.volume.specs.Directory.{OfSlot};
 ghost use Rattle.volume.specs.Performing.{Runs};
 
 use device::{Fault, SectorDevice, zero_sector};
@@ -50,7 +50,7 @@ pub fn write_data<D: SectorDevice>(
 ) -> Result<(), Fault>
     requires { length bytes.now ≤ 65535 }
     ensures keeps { Keeps D.SectorDevice device.old device.new }
-    ensures runs { OfSound D.SectorDevice device.old device.new (λ t m m'. slot < layout.now.slots → Room layout.now m → Runs t layout.now never m m' (filling slot 0 (chunk bytes.now) (extent_of (length bytes.now)).0) result) }
+    ensures runs { OfSlot D.SectorDevice layout.now slot device.old device.new (λ t m m'. Runs t layout.now never m m' (filling slot 0 (chunk bytes.now) (extent_of (length bytes.now)).0) result) }
 {
     for (i, part) in bytes.chunks(512).enumerate() {
         write_part(device, block_sector(*layout, slot, i as u8), part)?;
@@ -66,7 +66,7 @@ pub fn zero_block<D: SectorDevice>(
     count: u8,
 ) -> Result<(), Fault>
     ensures keeps { Keeps D.SectorDevice device.old device.new }
-    ensures runs { OfSound D.SectorDevice device.old device.new (λ t m m'. slot < layout.now.slots → Room layout.now m → count ≤ 128 → Runs t layout.now never m m' (filling slot 0 zero_chunk count) result) }
+    ensures runs { OfSlot D.SectorDevice layout.now slot device.old device.new (λ t m m'. count ≤ 128 → Runs t layout.now never m m' (filling slot 0 zero_chunk count) result) }
 {
     write_zeros(
         device,

@@ -1,13 +1,13 @@
 // The directory, one slot at a time.
-ghost use Rattle.std.specs.Prelude.{◌≡◌, ◌<◌, [], ◌∷◌, length};
-ghost use Rattle.device.specs.Calls.{Keeps, OfSound};
+ghost use Rattle.std.specs.Prelude.{◌≡◌, [], ◌∷◌};
+ghost use Rattle.device.specs.Calls.{Keeps};
 ghost use Rattle.entries.specs.Entry.{entry_in, entry_bytes};
 ghost use Rattle.layout.specs.Bytes.{part};
 ghost use Rattle.layout.specs.Sizes.{place_of};
 ghost use Rattle.layout.specs.declared.sizes.Layout.{Layout};
 ghost use Rattle.places.specs.SlotWrites.{spliced};
 ghost use Rattle.plans.specs.Plans.{for_entries, entering};
-ghost use Rattle.volume.specs.Directory.{Room, Turns, ReadsEntry, Holds};
+ghost use Rattle.volume.specs.Directory.{OfSlot, OfEntry, Turns, ReadsEntry, Holds};
 ghost use Rattle.volume.specs.Performing.{Runs};
 
 use device::{Fault, SectorDevice, zero_sector};
@@ -21,7 +21,7 @@ pub fn turn_to<D: SectorDevice>(
     sector: &mut [u8; 512],
 ) -> Result<(), Fault>
     ensures keeps { Keeps D.SectorDevice device.old device.new }
-    ensures turns { OfSound D.SectorDevice device.old device.new (λ t m m'. (place_of slot).sector < length m.sectors → Turns t m m' slot sector.old sector.new result) }
+    ensures turns { OfEntry D.SectorDevice slot device.old device.new (λ t m m'. Turns t m m' slot sector.old sector.new result) }
 {
     if slot % 16 == 0 {
         device.read(entry_place(slot).sector, sector)?;
@@ -55,8 +55,8 @@ pub fn write_entry<D: SectorDevice>(
     sector: &mut [u8; 512],
 ) -> Result<(), Fault>
     ensures keeps { Keeps D.SectorDevice device.old device.new }
-    ensures runs { OfSound D.SectorDevice device.old device.new (λ t m m'. (place_of slot).sector < length m.sectors → (c : Layout) → Runs t c for_entries m m' (entering slot entry.now ∷ []) result) }
-    ensures holds { OfSound D.SectorDevice device.old device.new (λ t m m'. (place_of slot).sector < length m.sectors → Holds m' slot sector.new result) }
+    ensures runs { OfEntry D.SectorDevice slot device.old device.new (λ t m m'. (c : Layout) → Runs t c for_entries m m' (entering slot entry.now ∷ []) result) }
+    ensures holds { OfEntry D.SectorDevice slot device.old device.new (λ t m m'. Holds m' slot sector.new result) }
 {
     let n = entry_place(slot).sector;
     device.read(n, sector)?;
@@ -71,7 +71,7 @@ pub fn read_entry<D: SectorDevice>(
     slot: u16,
 ) -> Result<Entry, Fault>
     ensures keeps { Keeps D.SectorDevice device.old device.new }
-    ensures reads { OfSound D.SectorDevice device.old device.new (λ t m m'. slot < layout.now.slots → Room layout.now m → ReadsEntry t layout.now m m' slot result) }
+    ensures reads { OfSlot D.SectorDevice layout.now slot device.old device.new (λ t m m'. ReadsEntry t layout.now m m' slot result) }
 {
     let mut sector = zero_sector();
     device.read(entry_place(slot).sector, &mut sector)?;

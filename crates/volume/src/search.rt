@@ -1,9 +1,9 @@
 // Passes over the directory, each of whose sectors is read once.
 ghost use Rattle.std.specs.Prelude.{◌≡◌, Ok, Err};
-ghost use Rattle.device.specs.Calls.{Keeps, OfSound};
+ghost use Rattle.device.specs.Calls.{Keeps};
 ghost use Rattle.device.specs.Meaning.{Sectors};
 ghost use Rattle.plans.specs.Slots.{Job, job_in, as_slot, usable, named};
-ghost use Rattle.volume.specs.Directory.{Room, Scans, Seeks, InSlots, ScanIn, FoundIn};
+ghost use Rattle.volume.specs.Directory.{OfCard, Scans, Seeks, InSlots, ScanIn, FoundIn};
 
 use crate::directory::{entry_in, turn_to};
 use crate::found::{Found, Scan};
@@ -34,7 +34,7 @@ pub fn scan<D: SectorDevice>(
 ) -> Result<Scan, Fault>
     ensures inside { ScanIn layout.now.slots result }
     ensures keeps { Keeps D.SectorDevice device.old device.new }
-    ensures scans { OfSound D.SectorDevice device.old device.new (λ t m m'. Room layout.now m → Scans t layout.now m m' one.now other.now result) }
+    ensures scans { OfCard D.SectorDevice layout.now device.old device.new (λ t m m'. Scans t layout.now m m' one.now other.now result) }
 {
     let mut sector = zero_sector();
     let mut scan = Scan {
@@ -64,7 +64,7 @@ pub fn find<D: SectorDevice>(
 ) -> Result<Option<Found>, Fault>
     ensures inside { FoundIn layout.now.slots result }
     ensures keeps { Keeps D.SectorDevice device.old device.new }
-    ensures seeks { OfSound D.SectorDevice device.old device.new (λ t m m'. Room layout.now m → Seeks t layout.now m m' name.now result) }
+    ensures seeks { OfCard D.SectorDevice layout.now device.old device.new (λ t m m'. Seeks t layout.now m m' name.now result) }
 {
     let mut sector = zero_sector();
     for slot in 0..layout.slots {

@@ -1,11 +1,11 @@
 -- After the first sectors: the device with those filled, and the other bytes left.
-use Rattle.std.proofs.Common.{◌≡◌, ◌*◌, ◌<◌, ◌≤◌, length, drop}
+use Rattle.std.proofs.Common.{◌≡◌, ◌*◌, ◌≤◌, length, drop}
 use Rattle.std.specs.Iterator.Adapters.{enumerate_source, enumerate_count}
 use Rattle.std.specs.Slice.Iter.{chunks_rest, chunks_size}
-use Rattle.device.specs.Calls.{Keeps, OfSound}
+use Rattle.device.specs.Calls.{Keeps}
 use Rattle.layout.specs.Extents.{extent_of}
 use Rattle.plans.specs.Plans.{filling, chunk}
-use Rattle.volume.specs.Directory.{Room}
+use Rattle.volume.specs.Directory.{OfSlot}
 use Rattle.volume.specs.Performing.{Performed}
 use Rattle.volume.proofs.data.write_data.Given as goal
 
@@ -21,5 +21,5 @@ invariant-loop-i g l =
       rest : chunks_rest (enumerate_source l.i-iterator) ≡ drop (512 * n) l.bytes;
       some : n ≤ (extent_of (length l.bytes)).0;
       keeps : Keeps d l.initial.device l.device;
-      runs : OfSound d l.initial.device l.device (λ t m m'. l.slot < l.layout.slots → Room l.layout m → Performed l.layout m m' (filling l.slot 0 (chunk l.bytes) n));
+      runs : OfSlot d l.layout l.slot l.initial.device l.device (λ t m m'. Performed l.layout m m' (filling l.slot 0 (chunk l.bytes) n));
     }

@@ -1,9 +1,9 @@
 -- The slots below this one were looked at, and none has the name.
 use Rattle.std.proofs.Common.{◌≡◌, length, None}
-use Rattle.device.specs.Calls.{Keeps, OfSound}
+use Rattle.device.specs.Calls.{Keeps}
 use Rattle.places.specs.Places.{places}
 use Rattle.plans.specs.Slots.{named}
-use Rattle.volume.specs.Directory.{Room}
+use Rattle.volume.specs.Directory.{OfCard}
 use Rattle.volume.proofs.Passes.{Looked, lowest_below}
 use Rattle.volume.proofs.search.find.Given as goal
 
@@ -13,5 +13,5 @@ invariant-loop-slot g l =
     record {
       long : length l.sector ≡ 512;
       keeps : Keeps d l.initial.device l.device;
-      looked : OfSound d l.initial.device l.device (λ t m m'. Room l.layout m → Looked m m' l.slot l.sector × (lowest_below (named l.name) (places l.layout m.sectors) l.slot ≡ None));
+      looked : OfCard d l.layout l.initial.device l.device (λ t m m'. Looked m m' l.slot l.sector × (lowest_below (named l.name) (places l.layout m.sectors) l.slot ≡ None));
     }

@@ -1,9 +1,9 @@
 -- The slots below this one were looked at.
 use Rattle.std.proofs.Common.{◌≡◌, length}
-use Rattle.device.specs.Calls.{Keeps, OfSound}
+use Rattle.device.specs.Calls.{Keeps}
 use Rattle.places.specs.Places.{places}
 use Rattle.plans.specs.Slots.{usable, named}
-use Rattle.volume.specs.Directory.{Room, found_in, InSlots}
+use Rattle.volume.specs.Directory.{OfCard, found_in, InSlots}
 use Rattle.volume.proofs.Passes.{Looked, lowest_below}
 use Rattle.volume.proofs.search.scan.Given as goal
 
@@ -15,7 +15,7 @@ invariant-loop-slot g l =
       long : length l.sector ≡ 512;
       inside : InSlots l.slot v.one × InSlots l.slot v.other × InSlots l.slot v.room;
       keeps : Keeps d l.initial.device l.device;
-      looked : OfSound d l.initial.device l.device (λ t m m'. Room l.layout m →
+      looked : OfCard d l.layout l.initial.device l.device (λ t m m'.
           (let ps = places l.layout m.sectors in
           Looked m m' l.slot l.sector
           × (v.one ≡ found_in ps (lowest_below (named l.one) ps l.slot))
