@@ -9,7 +9,7 @@ pub struct Found {
 }
 
 // The first live jobs of two names, and the lowest usable slot.
-#[derive(Clone, Copy)]
+#[derive(Clone, Copy, Default)]
 pub struct Scan {
     pub one: Option<Found>,
     pub other: Option<Found>,

@@ -37,11 +37,7 @@ pub fn scan<D: SectorDevice>(
     ensures scans { OfCard D.SectorDevice layout.now device.old device.new (λ t m m'. Scans t layout.now m m' one.now other.now result) }
 {
     let mut sector = zero_sector();
-    let mut scan = Scan {
-        one: None,
-        other: None,
-        room: None,
-    };
+    let mut scan = Scan::default();
     for slot in 0..layout.slots {
         turn_to(device, slot, &mut sector)?;
         let entry = entry_in(&sector, slot);
