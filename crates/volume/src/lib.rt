@@ -1,4 +1,5 @@
 // The calls' inner steps over any device.
+// Device and layout stay two parameters: a struct of both needs longer clauses, and one more on whose device it is.
 #![tactic(auto)]
 
 // The open job as the program keeps it.

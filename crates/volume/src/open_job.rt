@@ -10,7 +10,7 @@ pub struct OpenJob {
     pub first: u32,
     // full sectors written
     pub full: u32,
-    // bytes gathered behind them, at the front of `gathered`
+    // bytes gathered behind them, at the front of `gathered` (a vector of fixed room is not Copy, as this is)
     pub filled: usize,
     pub gathered: [u8; 512],
     // bytes put since the open or the last accepted commit

@@ -53,6 +53,7 @@ pub fn scan<D: SectorDevice>(
 }
 
 // The first live job of a name: the pass stops at its slot.
+// It looks at a slot as `scan` does, in three lines: a helper would need a longer contract.
 pub fn find<D: SectorDevice>(
     device: &mut D,
     layout: &Layout,
