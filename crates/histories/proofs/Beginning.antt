@@ -17,7 +17,6 @@ use Rattle.plans.specs.Slots.{Job, empty, live, slot_by, decoded, slots_in}
 use Rattle.plans.proofs.Entries.{emptied_by}
 use Rattle.history.specs.Agreement.{seen, Agrees, Holds}
 use Rattle.history.specs.Model.{new_model}
-use Rattle.history.proofs.Agreeing.{differ}
 use Rattle.histories.specs.Steps.{State, New}
 
 -- THE LABEL
@@ -29,7 +28,7 @@ each_holds (f ∷ fs) e i = at f.holds refl (each_holds fs) e i
   where
     at : (b : Bool) → f.holds ≡ b → (first_failing fs ≡ None → (i : ℕ) → (get_or fs i (field 0 true)).holds ≡ true) → cond b (first_failing fs) (Some f.offset) ≡ None →
         (i : ℕ) → (get_or (f ∷ fs) i (field 0 true)).holds ≡ true
-    at false h r e i = differ cc
+    at false h r e i = cc
     at true h r e zero = h
     at true h r e (suc i) = r e i
 
@@ -45,7 +44,7 @@ none_bad None x l e = (refl, same e)
   where
     same : {a c : Label} → ◌≡◌ {A = Result Label ℕ} (Ok a) (Ok c) → a ≡ c
     same e = cc
-none_bad (Some k) x l e = differ cc
+none_bad (Some k) x l e = cc
 
 size_fits : (n : ℕ) (b : List ℕ) (l : Label) (size : ℕ) → read_label n b ≡ Ok l → l.layout ≡ layout_of size → size ≤ n
 unfolding label_in
@@ -78,8 +77,8 @@ new_slots f i (suc n) h = ap₂ ◌∷◌ (h i (omega arith)) (new_slots f (suc 
 
 none_live : (n i : ℕ) (j : Job) → get_or (replicate n empty) i empty ≡ live j → ⊥
 none_live n i j e = elim (cases_lt i n) [
-  | inl h ↦ differ (let z = get_or-replicate n i empty empty h in cc)
-  | inr h ↦ differ (let z : get_or (replicate n empty) i empty ≡ empty = get_or_past (replicate n empty) i empty (omega (arith, length-replicate n empty)) in cc)
+  | inl h ↦ let z = get_or-replicate n i empty empty h in cc
+  | inr h ↦ let z : get_or (replicate n empty) i empty ≡ empty = get_or_past (replicate n empty) i empty (omega (arith, length-replicate n empty)) in cc
 ]
 
 new_shaped : (size : ℕ) (m : Meaning) → Lawful m → size ≤ length m.sectors → Shaped (layout_of size) m.sectors

@@ -6,7 +6,7 @@ use Rattle.plans.specs.Slots.{Job, Slot, empty, held, live, erased, damaged}
 use Rattle.plans.specs.Rows.{kept, job_row, rows_from, job_rows}
 use Rattle.plans.proofs.Entries.{lawful_first, lawful_short}
 use Rattle.history.specs.Agreement.{seen}
-use Rattle.history.proofs.Agreeing.{differ, seen_live, get_or-seen}
+use Rattle.history.proofs.Agreeing.{seen_live, get_or-seen}
 use Rattle.history.proofs.OneSlot.{length-padded, padded_lawful}
 use Rattle.histories.specs.Theorem.{Shows}
 
@@ -61,7 +61,7 @@ member_up (erased j) ys b r m = inr m
 member_up damaged ys b r m = m
 
 live_row : (ys : List Slot) (b k : ℕ) (j : Job) → get_or ys k empty ≡ live j → Member (job_row (b + k) j) (kept (rows_from b ys))
-live_row [] b k j e = differ cc
+live_row [] b k j e = cc
 live_row (y ∷ ys) b zero j e =
     subst (λ (x : Slot). Member (job_row (b + 0) j) (kept (rows_from b (x ∷ ys)))) (sym e) (inl (ap (λ (k : ℕ). job_row k j) (add-zero b)))
 live_row (y ∷ ys) b (suc k) j e =
@@ -70,10 +70,10 @@ live_row (y ∷ ys) b (suc k) j e =
 
 -- an erased job shows no lawful name
 erased_unlawful : (j : Job) (x : Slot) (n : List ℕ) → lawful_name n ≡ true → seen x ≡ erased j → j.name ≡ padded n → ⊥
-erased_unlawful j empty n l e f = differ cc
-erased_unlawful j (held k) n l e f = differ cc
-erased_unlawful j (live i) n l e f = differ cc
-erased_unlawful j damaged n l e f = differ cc
+erased_unlawful j empty n l e f = cc
+erased_unlawful j (held k) n l e f = cc
+erased_unlawful j (live i) n l e f = cc
+erased_unlawful j damaged n l e f = cc
 erased_unlawful j (erased i) n l e f =
     let name : set i.name 0 0x7F ≡ padded n = ap (λ (z : Job). z.name) (same e) ∙ f in
     marked i.name (padded n) (length-padded n (lawful_short n l)) (lawful_first (padded n) (padded_lawful n l)).1 name

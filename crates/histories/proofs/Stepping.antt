@@ -23,7 +23,7 @@ use Rattle.history.specs.Agreement.{Knows, Holds}
 use Rattle.history.specs.Events.{Outcome, accepted, refused, broken, Event, called, pulled, next, after}
 use Rattle.history.specs.Model.{Model, counted, done}
 use Rattle.history.specs.Preserved.{Typed, entries_written, Preserves}
-use Rattle.history.proofs.Writing.{take_none}
+use Rattle.std.proofs.Math.Seq.{take-nil}
 use Rattle.history.proofs.Preserving.{calls_preserve_lem, counted_none, no_places, unless_keeps, cond_keeps}
 use Rattle.layout.specs.Label.{bad_field}
 use Rattle.layout.specs.Words.{double_at}
@@ -129,7 +129,7 @@ same_written : (size : ℕ) (b : Bool) (q : Memory) → Knows b size q → (s : 
     all_written (card_layout q) s (take j (writes_of (plan s q call))) ≡ all_written (layout_of size) s (take j (writes_of (plan s q call)))
 same_written size true q k s call j = ap (λ (n : ℕ). all_written (layout_of n) s (take j (writes_of (plan s q call)))) k
 same_written size false q k s call j =
-    let none : take j (writes_of (plan s q call)) ≡ [] = ap (λ (x : Memory). take j (writes_of (plan s x call))) k ∙ (ap (take j) (idle s call) ∙ take_none j) in
+    let none : take j (writes_of (plan s q call)) ≡ [] = ap (λ (x : Memory). take j (writes_of (plan s x call))) k ∙ (ap (take j) (idle s call) ∙ take-nil j) in
     ap (all_written (card_layout q) s) none ∙ sym (ap (all_written (layout_of size) s) none)
 
 pub known_size : (size : ℕ) (b : Bool) (q : Memory) (n : ℕ) → Knows b size q → size ≤ n → q.size ≤ n
@@ -199,7 +199,7 @@ module _ (size : ℕ) (m : Model) (st : State) (call : Call) (h : Holds size m s
 
   none_found : (p : Plan) (o : Outcome) → writes_of p ≡ [] → Found p o → (st'.device.sectors ≡ s) × (o ≡ broken 0)
   none_found p o z f =
-      let e : take f.0 (writes_of p) ≡ [] = ap (take f.0) z ∙ take_none f.0 in
+      let e : take f.0 (writes_of p) ≡ [] = ap (take f.0) z ∙ take-nil f.0 in
       (f.1 ∙ ap (all_written c s) e, f.2 ∙ ap (λ (x : List SlotWrite). broken (entries_written x)) e)
 
   refused-goal : (p : Plan) (o : Outcome) → writes_of p ≡ [] → st'.device.sectors ≡ s → st'.memory ≡ st.memory → (o ≡ refused) ⊎ Found p o → Goal o
@@ -223,7 +223,7 @@ module _ (size : ℕ) (m : Model) (st : State) (call : Call) (h : Holds size m s
   -- a read that was refused before anything was written
   cut-nothing : (rs : Reads) (f : Fault) → Cut any_fault c rs st.device st'.device [] f → st'.device.sectors ≡ s
   cut-nothing rs f (at_write x) = let z = x.is_one in absurd (omega arith)
-  cut-nothing rs f (at_read x) = sectors-of _ x.leaves ∙ ap (all_written c s) (take_none x.after)
+  cut-nothing rs f (at_read x) = sectors-of _ x.leaves ∙ ap (all_written c s) (take-nil x.after)
 
   device-nothing : (rs : Reads) (r : Refusal) → IsByDevice (Cut any_fault c rs st.device st'.device []) r → st'.device.sectors ≡ s
   device-nothing rs Name b = absurd b

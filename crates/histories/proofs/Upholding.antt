@@ -1,5 +1,6 @@
 -- What agreement of card and model says of the next call.
 use Rattle.std.proofs.Common.{◌≡◌, ℕ, ◌<◌, Bool, true, false, ◌&&◌, ltb, leb, ◌⊎◌, ◌↔◌, List, [], map, length, get_or, set, Some, Ok, Err, Result, sym, refl, ap, ◌∙◌, subst, inl, inr, arith}
+use Rattle.std.proofs.lemmas.Slice.Eq.{bytes_eq-Decides}
 use Rattle.std.proofs.lemmas.List.{get_or-set_same}
 use Rattle.std.proofs.lemmas.Bool.{and_parts, ltb-true}
 use Rattle.device.specs.Meaning.{MayRefuse}
@@ -18,6 +19,7 @@ use Rattle.plans.specs.Memory.{Memory, unmounted, card_layout}
 use Rattle.plans.specs.Plans.{Plan, tell, decline, refuse, go, Reads, at_first, plan, card_places, place_in, slot_named, restored, restored_slot, load_plan, undelete_plan}
 use Rattle.plans.specs.Rows.{job_rows}
 use Rattle.plans.proofs.Lowest.{lowest_some, named_live}
+use Rattle.plans.proofs.Named.{live_same}
 use Rattle.plans.proofs.Refusing.{refuses_as_listed_lem}
 use Rattle.plans.proofs.Words.{lawful_name_decides}
 use Rattle.volume.specs.Outcomes.{Ended}
@@ -25,7 +27,7 @@ use Rattle.volume.specs.Performing.{Cut, at_write, at_read}
 use Rattle.history.specs.Agreement.{seen, Knows, Holds}
 use Rattle.history.specs.Events.{accepted}
 use Rattle.history.specs.Model.{Model, with_name, slot_of, done}
-use Rattle.history.proofs.Agreeing.{same_bytes, named_hit, slot_shown, same_length}
+use Rattle.history.proofs.Agreeing.{named_hit, slot_shown, same_length}
 use Rattle.history.proofs.OneSlot.{seen_erased}
 use Rattle.history.proofs.Preserving.{no_places, unless_keeps, found_keeps, vacant_keeps, cond_keeps}
 use Rattle.histories.specs.Steps.{State, any_fault, Did, Called}
@@ -157,13 +159,7 @@ found_name : (m : Model) (n : List ℕ) (k : ℕ) (i : Job) → slot_of m n ≡ 
 found_name m n k i e f =
     let l = lowest_some (named (padded n)) m.slots empty k e in
     let w = named_live (padded n) (get_or m.slots k empty) l.passes in
-    ap (λ (j : Job). j.name) (same_live (sym f ∙ w.1)) ∙ sym (same_bytes (padded n) w.0.name w.2)
-  where
-    same_live : {a b : Job} → live a ≡ live b → a ≡ b
-    same_live e = cc
-
-live_same : (a b : Job) → live a ≡ live b → a ≡ b
-live_same a b e = cc
+    ap (λ (j : Job). j.name) (live_same (sym f ∙ w.1)) ∙ sym ((bytes_eq-Decides (padded n) w.0.name).0 w.2)
 
 undeletes : (size : ℕ) (m : Model) (st : State) → Holds size m st.device.sectors st.memory → (k letter : ℕ) (st' : State) → Did st (undelete k letter) (Ok ok) st' →
     (j : Job) × (get_or m.slots k empty ≡ erased j)
@@ -182,7 +178,7 @@ undeletes size m st h k letter st' d =
           let r = loads size m' st' h' n room i st'' g in
           let name : i.name ≡ set j.name 0 letter = found_name m' n r.0 i r.1 r.2 ∙ e in
           let at : r.0 ≡ k = h'.agrees.unique r.0 k i (with_name j (set j.name 0 letter)) r.2 there name in
-          ap (λ (x : Job). x.bytes) (live_same i (with_name j (set j.name 0 letter)) (sym r.2 ∙ (ap (λ (z : ℕ). get_or m'.slots z empty) at ∙ there))),
+          ap (λ (x : Job). x.bytes) (live_same (sym r.2 ∙ (ap (λ (z : ℕ). get_or m'.slots z empty) at ∙ there))),
     )
 
 -- REFUSALS

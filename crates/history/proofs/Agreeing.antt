@@ -8,13 +8,10 @@ use Rattle.places.specs.Places.{Place, no_place}
 use Rattle.plans.specs.Slots.{Job, Slot, empty, held, live, erased, damaged, decoded, slots_in, usable, named, is_live, lowest, one_up}
 use Rattle.plans.specs.Memory.{OpenJob}
 use Rattle.plans.specs.Plans.{place_in}
-use Rattle.plans.proofs.Lowest.{Lowest, lowest_some, lowest_none, no, named_live}
+use Rattle.plans.proofs.Lowest.{Lowest, lowest_some, lowest_none, named_live}
+use Rattle.plans.proofs.Named.{live_same}
 use Rattle.history.specs.Model.{Waiting}
 use Rattle.history.specs.Agreement.{seen, Unique, Opens, Agrees}
-
--- constructors that differ
-pub differ : {A : Type 0} → ◌≡◌ {A = ℕ} 0 1 → A
-differ e = absurd (omega arith)
 
 -- WHAT THE CARD SHOWS
 
@@ -37,7 +34,7 @@ pub seen_live : (x : Slot) (j : Job) → seen x ≡ live j → x ≡ live j
 seen_live empty j e = e
 seen_live (held n) j e = e
 seen_live (live i) j e = e
-seen_live (erased i) j e = differ cc
+seen_live (erased i) j e = cc
 seen_live damaged j e = e
 
 lowest_seen : (p : Slot → Bool) → ((x : Slot) → p (seen x) ≡ p x) → (xs : List Slot) → lowest p (map seen xs) ≡ lowest p xs
@@ -79,12 +76,6 @@ hit {xs = xs} {ps = ps} a p h k e =
 
 -- SEARCHES BY NAME
 
-pub same_bytes : (m n : List ℕ) → bytes_eq m n ≡ true → m ≡ n
-same_bytes m n e = (bytes_eq-Decides m n).0 e
-
-pub bytes_same : (n : List ℕ) → bytes_eq n n ≡ true
-bytes_same n = (bytes_eq-Decides n n).1 refl
-
 -- the slot of a name that is live: its job
 pub record Named (xs : List Slot) (ps : List Place) (n : List ℕ) (k : ℕ) (j : Job) : Type 0 where
   pub inside : k < length ps
@@ -105,7 +96,7 @@ named_hit {xs = xs} a n k e =
         within = f.within;
         at = f.at;
         slot = l.1;
-        name = sym (same_bytes n l.0.name l.2);
+        name = sym ((bytes_eq-Decides n l.0.name).0 l.2);
         shows = f.shows ∙ ap seen l.1;
       },
     )
@@ -115,9 +106,9 @@ pub not_named : {xs : List Slot} {w : Option Waiting} {ps : List Place} {o : Opt
     (i : ℕ) (a : Job) → get_or xs i empty ≡ live a → a.name ≢ n
 not_named {xs = xs} g n e i a l f =
     elim (cases_lt i (length xs)) [
-      | inr h ↦ differ (let z = get_or_past xs i empty h in cc)
+      | inr h ↦ let z = get_or_past xs i empty h in cc
       | inl h ↦
-          let t : named n (get_or xs i empty) ≡ true = ap (named n) l ∙ (ap (bytes_eq n) f ∙ bytes_same n) in
+          let t : named n (get_or xs i empty) ≡ true = ap (named n) l ∙ (ap (bytes_eq n) f ∙ (bytes_eq-Decides n n).1 refl) in
           false≢true (sym (lowest_none (named n) xs empty (sym (lowest_same g (named n) (named_seen n)) ∙ e) i h) ∙ t)
     ]
 
@@ -144,7 +135,7 @@ unique_set xs u k y h i l a b p q e =
     new : (i : ℕ) (a : Job) → i ≡ k → get_or (set xs k y) i empty ≡ live a → y ≡ live a
     new i a f p = elim (cases_lt k (length xs)) [
       | inl h ↦ sym (get_or-set_same xs k y empty h) ∙ (ap (λ (z : ℕ). get_or (set xs k y) z empty) (sym f) ∙ p)
-      | inr h ↦ differ (let z : get_or (set xs k y) i empty ≡ empty = get_or_past (set xs k y) i empty (omega (arith, length-set xs k y)) in cc)
+      | inr h ↦ let z : get_or (set xs k y) i empty ≡ empty = get_or_past (set xs k y) i empty (omega (arith, length-set xs k y)) in cc
     ]
 
 -- the open job is in another slot than k
@@ -174,7 +165,7 @@ not_live_apart (Some o) (Some w) xs ps k f g =
 pub usable_not_live : (x : Slot) → usable x ≡ true → is_live x ≡ false
 usable_not_live empty e = refl
 usable_not_live (held n) e = refl
-usable_not_live (live j) e = no e
+usable_not_live (live j) e = cc
 usable_not_live (erased j) e = refl
 usable_not_live damaged e = refl
 
@@ -188,7 +179,4 @@ pub other_apart : (o : Option OpenJob) (w : Option Waiting) (xs : List Slot) (ps
 other_apart o None xs ps k j l f g = tt
 other_apart None (Some w) xs ps k j l f g = absurd g
 other_apart (Some o) (Some w) xs ps k j l f g =
-    λ e. f (g.name ∙ ap (λ (i : Job). i.name) (same_live (sym g.lives ∙ (ap (λ (z : ℕ). get_or xs z empty) e ∙ l))))
-  where
-    same_live : {i j : Job} → live i ≡ live j → i ≡ j
-    same_live e = cc
+    λ e. f (g.name ∙ ap (λ (i : Job). i.name) (live_same (sym g.lives ∙ (ap (λ (z : ℕ). get_or xs z empty) e ∙ l))))

@@ -14,7 +14,6 @@ use Rattle.plans.specs.Slots.{Job, Slot, empty, held, live, erased, damaged, job
 use Rattle.plans.specs.Memory.{OpenJob}
 use Rattle.plans.specs.Calls.{Call, rename, erase, undelete}
 use Rattle.plans.specs.Plans.{place_in, entry_of, entering, restored, restored_slot}
-use Rattle.plans.proofs.Lowest.{no}
 use Rattle.plans.proofs.Blocks.{ran}
 use Rattle.plans.proofs.Entries.{FitsEntry, renamed_fits, first_fits, entered_fits, entered, lawful_short, lawful_bytes, live_by, erased_by, IsLive, is_live_by, is_erased_by}
 use Rattle.history.specs.Model.{Model, changed, with_name, with_slots, once, counted, done}
@@ -37,7 +36,7 @@ chars_append (x ∷ xs) ys e f =
     and_from (name_char x) (name_chars (xs ++ ys)) p.0 (chars_append xs ys p.1 f)
 
 shown_append : (xs ys : List ℕ) → some_shown xs ≡ true → some_shown (xs ++ ys) ≡ true
-shown_append [] ys e = no e
+shown_append [] ys e = cc
 shown_append (x ∷ xs) ys e = elim (or_cases (not (eqb x 32)) (some_shown xs) e) [
   | inl h ↦ or_left (not (eqb x 32)) (some_shown (xs ++ ys)) h
   | inr h ↦ or_right (not (eqb x 32)) (some_shown (xs ++ ys)) (shown_append xs ys h)
@@ -116,7 +115,7 @@ unique_named xs u k j h = unique_set xs u k (live j) (λ i e l a n g q. h l a n 
 
 -- a slot that gets no live job
 unique_none : (xs : List Slot) → Unique xs → (k : ℕ) (y : Slot) → is_live y ≡ false → Unique (set xs k y)
-unique_none xs u k y h = unique_set xs u k y (λ i e. no (sym h ∙ ap is_live e))
+unique_none xs u k y h = unique_set xs u k y (λ i e. let z = sym h ∙ ap is_live e in cc)
 
 one_entry : (c : Layout) (m : Model) (ps : List Place) (o : Option OpenJob) (call : Call) (k : ℕ) (f : Slot → Slot) (e : Entry) → LaidOut c ps →
     Agrees m.slots m.waiting ps o → k < length ps → FitsEntry e →
@@ -176,18 +175,18 @@ rename_carried c m ps o l a old new g k j h ap' v =
 
 -- what is shown as erased is so
 pub seen_erased : (x : Slot) → is_erased (seen x) ≡ true → (j : Job) × (x ≡ erased j)
-seen_erased empty e = no e
-seen_erased (held n) e = no e
-seen_erased (live j) e = no e
+seen_erased empty e = cc
+seen_erased (held n) e = cc
+seen_erased (live j) e = cc
 seen_erased (erased j) e = (j, refl)
-seen_erased damaged e = no e
+seen_erased damaged e = cc
 
 live_is : (x : Slot) → is_live x ≡ true → (j : Job) × (x ≡ live j)
-live_is empty e = no e
-live_is (held n) e = no e
+live_is empty e = cc
+live_is (held n) e = cc
 live_is (live j) e = (j, refl)
-live_is (erased j) e = no e
-live_is damaged e = no e
+live_is (erased j) e = cc
+live_is damaged e = cc
 
 erased_entry : (p : Place) (j : Job) → decoded p ≡ erased j → (get_or (entry_of p).name 0 0 ≡ 127) × (job_in (entry_of p) p.sectors ≡ j)
 unfolding decoded

@@ -1,5 +1,6 @@
 -- Every call keeps the model: its plan followed test by test, down to what its writes owe.
 use Rattle.std.proofs.Common.{◌≡◌, ℕ, zero, suc, ◌+◌, ◌<◌, Bool, true, false, cond, ◌&&◌, eqb, ltb, leb, List, [], ◌∷◌, ◌++◌, length, get_or, take, set, Some, None, Ok, Option, Result, sym, refl, ap, ◌∙◌, subst, inl, inr, arith}
+use Rattle.std.proofs.Math.Seq.{take-nil}
 use Rattle.std.proofs.lemmas.Slice.Eq.{bytes_eq-Decides}
 use Rattle.std.proofs.lemmas.List.{set-get_or}
 use Rattle.std.proofs.lemmas.Bool.{and_parts, eqb-true, eqb-false, leb-true, ltb-true, false≢true}
@@ -25,7 +26,7 @@ use Rattle.plans.proofs.Entries.{lawful_short}
 use Rattle.history.specs.Model.{Waiting, Model, changed, saved, wiped, counted, done, slot_of, waiting_at, with_waiting, with_slots, opened, none_yet, open_slot}
 use Rattle.history.specs.Agreement.{Agrees, Knows, Holds}
 use Rattle.history.specs.Preserved.{entries_written, Typed, Preserved, Preserves, CallsPreserve}
-use Rattle.history.proofs.Writing.{take_none, fits_take, holds_after}
+use Rattle.history.proofs.Writing.{fits_take, holds_after}
 use Rattle.history.proofs.Agreeing.{hit, usable_seen, Named, named_hit, named_seen, lowest_same, Apart, OtherName, other_apart}
 use Rattle.history.proofs.Carried.{LaidOut, laid_out, Carried}
 use Rattle.history.proofs.OneSlot.{erase_carried, rename_carried, undelete_carried, padded_lawful, length-padded}
@@ -158,7 +159,7 @@ nothing_preserved : (size : ℕ) (m : Model) (s : Sectors) (q q' : Memory) (call
 nothing_preserved size m s q q' call h w = record {
   fits = tt;
   part = λ j.
-      subst (λ (ws : List SlotWrite). Holds size (counted m call (entries_written ws)) (all_written (layout_of size) s ws) q) (sym (take_none j))
+      subst (λ (ws : List SlotWrite). Holds size (counted m call (entries_written ws)) (all_written (layout_of size) s ws) q) (sym (take-nil j))
       (subst (λ (z : Model). Holds size z s q) (sym (counted_none m call)) h);
   whole = w;
 }

@@ -17,7 +17,6 @@ use Rattle.plans.specs.Slots.{Job, Slot, empty, held, live, erased, damaged, byt
 use Rattle.plans.specs.Memory.{OpenJob}
 use Rattle.plans.specs.Calls.{save, open'}
 use Rattle.plans.specs.Plans.{place_in, entry_of, entering, filling, chunk, no_entry, clearing, saved_entry, save_writes, new_job, opened_new, job_saved}
-use Rattle.plans.proofs.Lowest.{no}
 use Rattle.plans.proofs.Blocks.{ran, ran_append, ran_filling, laid, with_sectors, take-filling, length-filling, bytes_in_laid, chunks_hold, length-chunk, chunk_bytes}
 use Rattle.plans.proofs.Entries.{FitsEntry, new_fits, hold_fits, entered_fits, entered, lawful_short, lawful_bytes, live_by, emptied_by, empty_none, quiet}
 use Rattle.history.specs.Model.{Waiting, Model, changed, saved, with_slots, opened, counted, slot_of, none_yet, open_slot}
@@ -122,10 +121,10 @@ erased_parts p k j a v s w d (suc i) =
 save_parts : (p : Place) (k : ℕ) (j : Job) (y : Slot) → Full p → Saves j → FitsEntry (saved_entry p j) → decoded p ≡ seen y → usable y ≡ true → (i : ℕ) →
     decoded (ran p (take i (clearing k (seen y) ++ data_writes k p j))) ≡ seen (saved j (entries_written (take i (clearing k (seen y) ++ data_writes k p j))) y)
 save_parts p k j empty v s w d u i = empty_parts p k j v s w d i
-save_parts p k j (held n) v s w d u i = no u
-save_parts p k j (live a) v s w d u i = no u
+save_parts p k j (held n) v s w d u i = cc
+save_parts p k j (live a) v s w d u i = cc
 save_parts p k j (erased a) v s w d u i = erased_parts p k j a v s w d i
-save_parts p k j damaged v s w d u i = no u
+save_parts p k j damaged v s w d u i = cc
 
 data_entries : (p : Place) (k : ℕ) (j : Job) → entries_written (data_writes k p j) ≡ 1
 data_entries p k j =
@@ -134,18 +133,18 @@ data_entries p k j =
 
 save_whole : (p : Place) (k : ℕ) (j : Job) (y : Slot) → usable y ≡ true → saved j 2 y ≡ saved j (entries_written (clearing k (seen y) ++ data_writes k p j)) y
 save_whole p k j empty u = rw (data_entries p k j)
-save_whole p k j (held n) u = no u
-save_whole p k j (live a) u = no u
+save_whole p k j (held n) u = cc
+save_whole p k j (live a) u = cc
 save_whole p k j (erased a) u = rw (data_entries p k j)
-save_whole p k j damaged u = no u
+save_whole p k j damaged u = cc
 
 -- a live job that a save leaves is the saved one
 saved_new : (j : Job) (d : ℕ) (y : Slot) (i : Job) → usable y ≡ true → saved j d y ≡ live i → i ≡ j
-saved_new j zero y i u e = no (sym (usable_not_live y u) ∙ ap is_live e)
+saved_new j zero y i u e = let z = sym (usable_not_live y u) ∙ ap is_live e in cc
 saved_new j (suc d) empty i u e = cc
 saved_new j (suc d) (held n) i u e = cc
 saved_new j (suc d) (live a) i u e = cc
-saved_new j (suc zero) (erased a) i u e = no (ap is_live e)
+saved_new j (suc zero) (erased a) i u e = let z = ap is_live e in cc
 saved_new j (suc (suc d)) (erased a) i u e = cc
 saved_new j (suc d) damaged i u e = cc
 

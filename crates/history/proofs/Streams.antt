@@ -17,11 +17,12 @@ use Rattle.plans.specs.Memory.{OpenJob, job_length}
 use Rattle.plans.specs.Plans.{filling, chunk, entering, place_in, entry_of, sectors_full, put_writes, part_writes, commit_writes, after_put, after_commit}
 use Rattle.plans.proofs.Blocks.{ran, ran_append, length-filling, take-filling, chunk_bytes, length-chunk}
 use Rattle.plans.proofs.Entries.{resized_fits, entered_fits}
+use Rattle.plans.proofs.Named.{live_same}
 use Rattle.history.specs.Model.{Waiting, Model, with_more, waiting_at, all_counted, committed, counted, done}
 use Rattle.history.specs.Agreement.{seen, OpenAgrees, Agrees}
 use Rattle.history.specs.Preserved.{entries_written}
 use Rattle.history.proofs.Writing.{parts_append, parts_one, entries_append, entries_filling, to_slot_append, to_slot_filling, moved_one, fits_append, fits_filling}
-use Rattle.history.proofs.Agreeing.{differ, slot_shown, same_length, same_set, unique_set}
+use Rattle.history.proofs.Agreeing.{slot_shown, same_length, same_set, unique_set}
 use Rattle.history.proofs.Carried.{LaidOut, entry_fits, Carried}
 use Rattle.history.proofs.OpenPlaces.{Lies, filling_keeps, filling_more, entry_counts}
 
@@ -39,7 +40,7 @@ record Found (xs : List Slot) (ps : List Place) (o : OpenJob) (w : Waiting) (j :
 live_within : (xs : List Slot) (k : ℕ) (j : Job) → get_or xs k empty ≡ live j → k < length xs
 live_within xs k j e = elim (cases_lt k (length xs)) [
   | inl h ↦ h
-  | inr h ↦ differ (let z : get_or xs k empty ≡ empty = get_or_past xs k empty h in cc)
+  | inr h ↦ let z : get_or xs k empty ≡ empty = get_or_past xs k empty h in cc
 ]
 
 found_open : (xs : List Slot) (w : Waiting) (ps : List Place) (o : OpenJob) → Agrees xs (Some w) ps (Some o) → (j : Job) × Found xs ps o w j
@@ -67,13 +68,10 @@ agrees_open xs w ps o a j f i n p d o' w' e g =
     record {
       same = same_set xs ps a.same o.slot (live i) p d;
       unique = unique_set xs a.unique o.slot (live i)
-          (λ b q l c r s t. r (a.unique l o.slot c j s f.slot (t ∙ (ap (λ (z : Job). z.name) (same_live (sym q)) ∙ n))));
+          (λ b q l c r s t. r (a.unique l o.slot c j s f.slot (t ∙ (ap (λ (z : Job). z.name) (live_same (sym q)) ∙ n))));
       open' = subst (λ (k : ℕ). OpenAgrees o' w' (get_or (set xs o.slot (live i)) k empty) (place_in (set ps o.slot p) k)) (sym e)
           (rw (get_or-set_same xs o.slot (live i) empty f.within, get_or-set_same ps o.slot p no_place f.inside) g);
     }
-  where
-    same_live : {i j : Job} → live i ≡ live j → i ≡ j
-    same_live e = cc
 
 -- the same job, over other sectors
 agrees_kept : (xs : List Slot) (w : Waiting) (ps : List Place) (o : OpenJob) → Agrees xs (Some w) ps (Some o) → (j : Job) → Found xs ps o w j →

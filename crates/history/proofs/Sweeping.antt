@@ -1,5 +1,6 @@
 -- Sweep: the held slots are emptied one after another, upwards.
 use Rattle.std.proofs.Common.{◌≡◌, ℕ, zero, suc, ◌+◌, ◌<◌, ◌≤◌, min, Bool, true, false, cond, eqb, ◌≢◌, List, [], ◌∷◌, ◌++◌, map, length, get_or, take, set, Some, None, Option, sym, refl, ap, ◌∙◌, subst, append_assoc, le_refl, zero-add, arith}
+use Rattle.std.proofs.Math.Seq.{take-nil}
 use Rattle.std.proofs.lemmas.List.{append-nil, length-append, length_push, length-map, take_all, get_or_at, set_at, get_or-set_other, map-append}
 use Rattle.layout.specs.declared.sizes.Layout.{Layout}
 use Rattle.entries.specs.State.{lawful_fields, state_by}
@@ -16,8 +17,8 @@ use Rattle.plans.proofs.Entries.{held_none}
 use Rattle.history.specs.Model.{Waiting, Model, once, swept}
 use Rattle.history.specs.Agreement.{seen, Unique, Opens, Agrees}
 use Rattle.history.specs.Preserved.{entries_written, entries_act}
-use Rattle.history.proofs.Writing.{take_none, parts_append, entries_append, ToSlot, to_slot_take, moved_one, moved_append, fits_append}
-use Rattle.history.proofs.Agreeing.{differ, get_or-seen, same_length}
+use Rattle.history.proofs.Writing.{parts_append, entries_append, ToSlot, to_slot_take, moved_one, moved_append, fits_append}
+use Rattle.history.proofs.Agreeing.{get_or-seen, same_length}
 use Rattle.history.proofs.Carried.{LaidOut, Carried}
 use Rattle.history.proofs.Wiping.{to_slot_emptying, fits_emptying, entries_emptying, emptying_whole, emptying_part}
 
@@ -50,7 +51,7 @@ same_live x j = (λ e. e, λ e. e)
 swept_first : (d : ℕ) (x : Slot) (xs : List Slot) → (e : ℕ) × (y : Slot) × (swept d (x ∷ xs) ≡ y ∷ swept e xs) × SameLive y x
 swept_first d empty xs = (d, empty, refl, same_live empty)
 swept_first zero (held n) xs = (zero, held n, refl, same_live (held n))
-swept_first (suc d) (held n) xs = (d, empty, refl, λ j. (λ e. differ cc, λ e. differ cc))
+swept_first (suc d) (held n) xs = (d, empty, refl, λ j. (λ e. cc, λ e. cc))
 swept_first d (live j) xs = (d, live j, refl, same_live (live j))
 swept_first d (erased j) xs = (d, erased j, refl, same_live (erased j))
 swept_first d damaged xs = (d, damaged, refl, same_live damaged)
@@ -129,11 +130,11 @@ sweep_spares (suc i) k (y ∷ ys) j e =
 -- WHAT THE WRITES LEAVE
 
 held_cases : (z n x l : Bool) (m : ℕ) (i : Job) (k : ℕ) → as_slot (cond z (cond n Empty (Held m)) (cond x Erased (cond l Live Damaged))) i ≡ held k → m ≡ k
-held_cases true true x l m i k e = differ cc
+held_cases true true x l m i k e = cc
 held_cases true false x l m i k e = cc
-held_cases false n true l m i k e = differ cc
-held_cases false n false true m i k e = differ cc
-held_cases false n false false m i k e = differ cc
+held_cases false n true l m i k e = cc
+held_cases false n false true m i k e = cc
+held_cases false n false false m i k e = cc
 
 -- a held slot of a card has no more sectors to zero than its block has
 held_few : (p : Place) (n : ℕ) → decoded p ≡ held n → n ≤ 128
@@ -170,7 +171,7 @@ entries_take (suc j) (w ∷ ws) = by w.act (entries_take j ws)
 -- one slot of a sweep: a first part of its writes while nothing behind is swept, and all of them
 slot_part : (p : Place) (k : ℕ) (y : Slot) → decoded p ≡ y → (j : ℕ) (ys : List Slot) →
     decoded (ran p (take j (sweep_slot k y))) ∷ ys ≡ swept (entries_written (take j (sweep_slot k y))) (y ∷ ys)
-slot_part p k empty h j ys = rw (take_none {X = SlotWrite} j, h, swept_none ys)
+slot_part p k empty h j ys = rw (take-nil {A = SlotWrite} j, h, swept_none ys)
 slot_part p k (held n) h j ys =
     ap (λ (z : Slot). z ∷ ys) (emptying_part p k n (held n) held_none h j)
     ∙ by (entries_written (take j (emptying k n))) (omega (arith, entries_take j (emptying k n), entries_emptying k n))
@@ -179,9 +180,9 @@ slot_part p k (held n) h j ys =
     by zero l = ap (λ (z : List Slot). held n ∷ z) (sym (swept_none ys))
     by (suc zero) l = ap (λ (z : List Slot). empty ∷ z) (sym (swept_none ys))
     by (suc (suc d)) l = absurd (omega arith)
-slot_part p k (live i) h j ys = rw (take_none {X = SlotWrite} j, h, swept_none ys)
-slot_part p k (erased i) h j ys = rw (take_none {X = SlotWrite} j, h, swept_none ys)
-slot_part p k damaged h j ys = rw (take_none {X = SlotWrite} j, h, swept_none ys)
+slot_part p k (live i) h j ys = rw (take-nil {A = SlotWrite} j, h, swept_none ys)
+slot_part p k (erased i) h j ys = rw (take-nil {A = SlotWrite} j, h, swept_none ys)
+slot_part p k damaged h j ys = rw (take-nil {A = SlotWrite} j, h, swept_none ys)
 
 slot_whole : (p : Place) (k : ℕ) (y : Slot) → decoded p ≡ y → (e : ℕ) (ys : List Slot) →
     decoded (ran p (sweep_slot k y)) ∷ swept e ys ≡ swept (entries_written (sweep_slot k y) + e) (y ∷ ys)
@@ -225,7 +226,7 @@ sweeps_next pre ps p k h ws s =
     ap slots_in m ∙ (s ∙ (f ∙ ap (λ (z : List Slot). slots_in pre ++ z) g))
 
 sweep_part : (pre ps : List Place) (k : ℕ) → length pre ≡ k → (j : ℕ) → Sweeps pre ps (take j (sweep_writes k (slots_in ps)))
-sweep_part pre [] k h j = rw (take_none {X = SlotWrite} j, append-nil pre) (sym (append-nil (slots_in pre)))
+sweep_part pre [] k h j = rw (take-nil {A = SlotWrite} j, append-nil pre) (sym (append-nil (slots_in pre)))
 sweep_part pre (p ∷ ps) k h j =
     let xs : List SlotWrite = sweep_slot k (decoded p) in
     let rest : List SlotWrite = sweep_writes (suc k) (slots_in ps) in

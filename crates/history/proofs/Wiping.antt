@@ -1,5 +1,6 @@
 -- Wipe: the live job's slot is held while its sectors are zeroed, and empty in the end.
 use Rattle.std.proofs.Common.{◌≡◌, ℕ, zero, suc, ◌+◌, ◌<◌, ◌≤◌, min, eqb, List, [], ◌∷◌, ◌++◌, length, get_or, take, set, Option, sym, refl, ap, ◌∙◌, subst, arith}
+use Rattle.std.proofs.Math.Seq.{take-nil}
 use Rattle.std.proofs.lemmas.List.{length-take-le, set-get_or, append-nil}
 use Rattle.std.proofs.lemmas.Bool.{and_parts, eqb-true}
 use Rattle.device.proofs.Zeros.{length-zeros}
@@ -21,8 +22,8 @@ use Rattle.plans.proofs.Entries.{entered_fits, hold_fits, entered, is_live_by, H
 use Rattle.history.specs.Model.{Model, once, wiped, held_or_empty, with_slots, changed, counted}
 use Rattle.history.specs.Agreement.{seen, Unique, Agrees}
 use Rattle.history.specs.Preserved.{entries_written}
-use Rattle.history.proofs.Writing.{parts_append, parts_one, take_none, entries_append, entries_filling, ToSlot, to_slot_append, to_slot_filling, fits_append, fits_filling}
-use Rattle.history.proofs.Agreeing.{differ, Named, unique_set, Apart}
+use Rattle.history.proofs.Writing.{parts_append, parts_one, entries_append, entries_filling, ToSlot, to_slot_append, to_slot_filling, fits_append, fits_filling}
+use Rattle.history.proofs.Agreeing.{Named, unique_set, Apart}
 use Rattle.history.proofs.Carried.{LaidOut, Carried, full_wide, entry_fits}
 use Rattle.history.proofs.OneSlot.{one_slot}
 
@@ -105,7 +106,7 @@ wiped_part : (p : Place) (k n : ℕ) (j : Job) → decoded p ≡ live j → (ext
     decoded (ran p (take i (wipe_writes k n))) ≡ seen (wiped (entries_written (take i (wipe_writes k n))) (live j))
 wiped_part p k n j h e l zero = h
 wiped_part p k zero j h e l (suc i) =
-    subst (λ (zs : List SlotWrite). decoded (ran p (entering k no_entry ∷ zs)) ≡ seen (wiped (suc (entries_written zs)) (live j))) (sym (take_none i))
+    subst (λ (zs : List SlotWrite). decoded (ran p (entering k no_entry ∷ zs)) ≡ seen (wiped (suc (entries_written zs)) (live j))) (sym (take-nil i))
     (entered_empty p k ∙ ap (λ (z : ℕ). seen (held_or_empty z)) (sym e))
 wiped_part p k (suc n) j h e l (suc i) =
     let g : Entry = hold_entry (suc n) in
@@ -138,9 +139,9 @@ wiped_unique xs u k j h zero = subst Unique (sym (ap (set xs k) (sym h) ∙ set-
 wiped_unique xs u k j h (suc zero) = unique_set xs u k (wiped 1 (live j)) (λ i e. by (extent_of (length j.bytes)).0 i e)
   where
     by : {A : Type 0} (n : ℕ) (i : Job) → held_or_empty n ≡ live i → A
-    by zero i e = differ cc
-    by (suc n) i e = differ cc
-wiped_unique xs u k j h (suc (suc d)) = unique_set xs u k empty (λ i e. differ cc)
+    by zero i e = cc
+    by (suc n) i e = cc
+wiped_unique xs u k j h (suc (suc d)) = unique_set xs u k empty (λ i e. cc)
 
 pub wipe_carried : (c : Layout) (m : Model) (ps : List Place) (o : Option OpenJob) → LaidOut c ps → Agrees m.slots m.waiting ps o → (n : List ℕ) (k : ℕ) (j : Job) →
     Named m.slots ps (padded n) k j → Apart m.waiting k → Carried c m ps o (wipe n) (wipe_writes k (entry_of (place_in ps k)).sectors) o

@@ -1,5 +1,6 @@
 -- Lists of writes: their first parts, those to one slot, and what they leave of a card.
 use Rattle.std.proofs.Common.{◌≡◌, ℕ, zero, suc, ◌+◌, ◌-◌, ◌<◌, ◌≤◌, List, [], ◌∷◌, ◌++◌, length, get_or, take, set, sym, refl, ap, ◌∙◌, subst, ap₂, inl, inr, arith}
+use Rattle.std.proofs.Math.Seq.{take-nil}
 use Rattle.std.proofs.lemmas.List.{set-get_or, set-set, get_or-set_same, length-set, take-append-le, take_all}
 use Rattle.std.proofs.lemmas.Bool.{cases_lt}
 use Rattle.device.specs.Meaning.{Sectors, Bytes}
@@ -16,10 +17,6 @@ use Rattle.history.specs.Model.{Model}
 use Rattle.history.specs.Agreement.{Agrees, Knows, Holds}
 use Rattle.history.specs.Preserved.{entries_written, entries_act}
 
-pub take_none : {X : Type 0} (j : ℕ) → take {A = X} j [] ≡ []
-take_none zero = refl
-take_none (suc j) = refl
-
 -- what holds of each first part of xs, and of xs with each first part of ys behind it, holds of each first part of both
 pub parts_append : {X : Type 0} (P : List X → Type 0) (xs ys : List X) → ((j : ℕ) → j ≤ length xs → P (take j xs)) → ((j : ℕ) → P (xs ++ take j ys)) →
     (j : ℕ) → P (take j (xs ++ ys))
@@ -33,7 +30,7 @@ parts_append P xs ys f g j = elim (cases_lt (length xs) j) [
 -- of a single write
 pub parts_one : {X : Type 0} (P : List X → Type 0) (x : X) → P [] → P (x ∷ []) → (j : ℕ) → P (take j (x ∷ []))
 parts_one P x a b zero = a
-parts_one P x a b (suc j) = subst (λ (z : List _). P (x ∷ z)) (sym (take_none j)) b
+parts_one P x a b (suc j) = subst (λ (z : List _). P (x ∷ z)) (sym (take-nil j)) b
 
 -- DIRECTORY WRITES
 

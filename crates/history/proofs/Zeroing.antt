@@ -18,11 +18,11 @@ use Rattle.plans.specs.Calls.{wipe, Answer}
 use Rattle.plans.specs.Memory.{Memory}
 use Rattle.plans.specs.Plans.{Plan, decline, refuse, go, Reads, plan, place_in, entry_of, slot_named, filling, emptying, zero_chunk, no_entry, entering, wipe_writes, wipe_plan}
 use Rattle.plans.proofs.Blocks.{ran, ran_append, ran_filling, laid, with_sectors}
-use Rattle.plans.proofs.Lowest.{some_same}
+use Rattle.std.proofs.lemmas.Option.{same_Some}
 use Rattle.history.specs.Model.{Model, slot_of}
 use Rattle.history.specs.Agreement.{Knows, Holds}
 use Rattle.history.specs.Preserved.{WipeZeroes}
-use Rattle.history.proofs.Agreeing.{differ, Named, named_hit}
+use Rattle.history.proofs.Agreeing.{Named, named_hit}
 use Rattle.history.proofs.Carried.{Carried, laid_out}
 use Rattle.history.proofs.Writing.{ToSlot, moved_one}
 use Rattle.history.proofs.Wiping.{to_slot_emptying, live_sectors, wipe_carried}
@@ -84,15 +84,15 @@ wipe_zeroed m s q h e n =
     let lay : Layout = layout_of q.size in
     let ps : List Place = places lay s in
     let P : Plan → Type 0 = Zeroed q.size m s n in
-    let d : (x : Refusal) → P (decline x) = λ x r ws a q' g. differ cc in
-    let f : (x : Refusal) → P (refuse x) = λ x r ws a q' g. differ cc in
+    let d : (x : Refusal) → P (decline x) = λ x r ws a q' g. cc in
+    let f : (x : Refusal) → P (refuse x) = λ x r ws a q' g. cc in
     unless_keeps P d f (lawful_name n) Name _ λ _.
     named_shut_keeps P d f q.job (padded n) _ λ o.
     found_keeps P d f (slot_named ps n) NoJob _ λ k g.
     let w = named_hit h.agrees (padded n) k g in
     let c = wipe_carried lay m ps q.job (laid_out q.size s h.shaped) h.agrees n k w.0 w.1 (apart_from m s q h e n o k w.0 w.1) in
     λ r ws a q' t k' v i l.
-    let same : k' ≡ k = some_same k' k (sym v ∙ w.1.at) in
+    let same : k' ≡ k = same_Some k' k (sym v ∙ w.1.at) in
     let x = same_writes _ r _ ws _ a _ q' t in
     subst (λ (y : List SlotWrite). get_or (place_in (places lay (all_written lay s y)) k').sectors i [] ≡ zeros 512) x
     (subst (λ (y : ℕ). get_or (place_in (places lay (all_written lay s (wipe_writes k (entry_of (place_in ps k)).sectors))) y).sectors i [] ≡ zeros 512) (sym same)

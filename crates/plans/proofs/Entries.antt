@@ -15,7 +15,6 @@ use Rattle.entries.proofs.Entries.{entry_back}
 use Rattle.places.specs.Places.{Place, acted, FitsAct}
 use Rattle.places.specs.SlotWrites.{enter}
 use Rattle.plans.specs.Slots.{Job, Slot, empty, held, live, erased, damaged, job_in, as_slot, slot_by, decoded}
-use Rattle.plans.proofs.Lowest.{no}
 
 -- fields of the widths that an entry stores
 pub record FitsEntry (e : Entry) : Type 0 where
@@ -221,7 +220,7 @@ name_byte c e = elim (or_cases (leb 65 c && leb c 90) _ e) [
 ]
 
 pub lawful_first : (n : List ℕ) → lawful_name n ≡ true → (0 < get_or n 0 0) × (get_or n 0 0 < 127)
-lawful_first [] e = no (and_parts (leb 0 16) false e).1
+lawful_first [] e = let z = (and_parts (leb 0 16) false e).1 in cc
 lawful_first (x ∷ xs) e =
     let p = and_parts (leb (length (x ∷ xs)) 16) _ e in
     let q = and_parts (name_chars (x ∷ xs)) _ p.1 in
@@ -271,15 +270,12 @@ pub record IsLive (k a : ℕ) (e : Entry) (s : Sectors) (j : Job) : Type 0 where
   pub lawful : lawful_fields k a e ≡ true
   pub job : job_in e s ≡ j
 
-slot_no : {A : Type 0} → ◌≡◌ {A = ℕ} 0 1 → A
-slot_no e = absurd (omega arith)
-
 live_cases : (z n x l : Bool) (m : ℕ) (i j : Job) → as_slot (cond z (cond n Empty (Held m)) (cond x Erased (cond l Live Damaged))) i ≡ live j → (l ≡ true) × (i ≡ j)
-live_cases true true x l m i j e = slot_no cc
-live_cases true false x l m i j e = slot_no cc
-live_cases false n true l m i j e = slot_no cc
+live_cases true true x l m i j e = cc
+live_cases true false x l m i j e = cc
+live_cases false n true l m i j e = cc
 live_cases false n false true m i j e = (refl, cc)
-live_cases false n false false m i j e = slot_no cc
+live_cases false n false false m i j e = cc
 
 pub is_live_by : (k a : ℕ) (e : Entry) (s : Sectors) (j : Job) → slot_by k a e s ≡ live j → IsLive k a e s j
 unfolding slot_by state_by
@@ -288,11 +284,11 @@ is_live_by k a e s j h =
     record { lawful = r.0; job = r.1 }
 
 erased_cases : (z n x l : Bool) (m : ℕ) (i j : Job) → as_slot (cond z (cond n Empty (Held m)) (cond x Erased (cond l Live Damaged))) i ≡ erased j → (x ≡ true) × (i ≡ j)
-erased_cases true true x l m i j e = slot_no cc
-erased_cases true false x l m i j e = slot_no cc
+erased_cases true true x l m i j e = cc
+erased_cases true false x l m i j e = cc
 erased_cases false n true l m i j e = (refl, cc)
-erased_cases false n false true m i j e = slot_no cc
-erased_cases false n false false m i j e = slot_no cc
+erased_cases false n false true m i j e = cc
+erased_cases false n false false m i j e = cc
 
 pub is_erased_by : (k a : ℕ) (e : Entry) (s : Sectors) (j : Job) → slot_by k a e s ≡ erased j → (get_or e.name 0 0 ≡ 127) × (job_in e s ≡ j)
 unfolding slot_by state_by
@@ -312,16 +308,16 @@ quiet_cases true false x l m i j y q e = e
 quiet_cases false n true l m i j y q e = by y q e
   where
     by : (y : Slot) → HasNoJob y → erased i ≡ y → erased j ≡ y
-    by empty q e = slot_no cc
-    by (held m) q e = slot_no cc
+    by empty q e = cc
+    by (held m) q e = cc
     by (live k) q e = elim q [ ]
     by (erased k) q e = elim q [ ]
     by damaged q e = elim q [ ]
 quiet_cases false n false true m i j y q e = by y q e
   where
     by : (y : Slot) → HasNoJob y → live i ≡ y → live j ≡ y
-    by empty q e = slot_no cc
-    by (held m) q e = slot_no cc
+    by empty q e = cc
+    by (held m) q e = cc
     by (live k) q e = elim q [ ]
     by (erased k) q e = elim q [ ]
     by damaged q e = elim q [ ]

@@ -2,6 +2,8 @@
 use Rattle.std.proofs.Common.{◌≡◌, ℕ, Bool, true, false, cond, eqb, ◌↔◌, List, [], ◌∷◌, Some, None, Decides, Option, sym, refl, ap, ◌∙◌, inl, inr}
 use Rattle.std.proofs.lemmas.Slice.Eq.{bytes_eq-Decides}
 use Rattle.std.proofs.lemmas.Bool.{eqb-true, eqb-false}
+use Rattle.std.proofs.lemmas.Bool.Decides.{not_from_Decides}
+use Rattle.std.proofs.lemmas.Option.{same_Some}
 use Rattle.std.specs.Str.{bytes_eq}
 use Rattle.refusals.specs.Refusals.{refusal_number}
 use Rattle.refusals.specs.declared.Refusal.{Refusal}
@@ -11,8 +13,6 @@ use Rattle.plans.specs.Memory.{OpenJob, Memory}
 use Rattle.plans.specs.Calls.{Answer}
 use Rattle.plans.specs.Plans.{Reads, Plan, tell, decline, refuse, go, unless, found, vacant, all_shut, named_shut, held_open}
 use Rattle.plans.specs.Cases.{Not, Case, case, First, Refuses}
-use Rattle.plans.proofs.Lowest.{none_some, some_same}
-use Rattle.plans.proofs.Words.{denied}
 
 -- the plan refuses with the number n exactly if it is that of the first case that holds
 pub record AsListed (p : Plan) (cs : List Case) (n : ℕ) : Type 0 where
@@ -56,7 +56,7 @@ unless_first false r f g h = declines (g refl)
 
 pub unless_decided : {b : Bool} (r : Refusal) {P : Type 0} {p : Plan} {cs : List Case} {n : ℕ} → Decides b P →
     AsListed p cs n → AsListed (unless b r p) (case (refusal_number r) (Not P) ∷ cs) n
-unless_decided {b = b} r d h = unless_first b r (λ e f. f (d.0 e)) (denied d) (λ _. h)
+unless_decided {b = b} r d h = unless_first b r (λ e f. f (d.0 e)) (not_from_Decides b d) (λ _. h)
 
 pub cond_first : (b : Bool) (r : Refusal) {P : Type 0} {p : Plan} {cs : List Case} {n : ℕ} → (b ≡ true → Not P) → (b ≡ false → P) →
     (b ≡ true → AsListed p cs n) → AsListed (cond b p (refuse r)) (case (refusal_number r) P ∷ cs) n
@@ -96,23 +96,23 @@ kept_first false r f g h = declines (g refl)
 
 pub all_shut_first : (j : Option OpenJob) {p : Plan} {cs : List Case} {n : ℕ} → AsListed p cs n →
     AsListed (all_shut j p) (case 8 ((o : OpenJob) × (j ≡ Some o)) ∷ cs) n
-all_shut_first None h = passes (λ x. none_some x.0 x.1) h
+all_shut_first None h = passes (λ x. let z = x.1 in cc) h
 all_shut_first (Some o) h = declines (o, refl)
 
 pub named_shut_first : (j : Option OpenJob) (m : List ℕ) {p : Plan} {cs : List Case} {n : ℕ} → AsListed p cs n →
     AsListed (named_shut j m p) (case 8 ((o : OpenJob) × (j ≡ Some o) × (o.name ≡ m)) ∷ cs) n
-named_shut_first None m h = passes (λ x. none_some x.0 x.1) h
+named_shut_first None m h = passes (λ x. let z = x.1 in cc) h
 named_shut_first (Some o) m h =
     let d = bytes_eq-Decides m o.name in
     declined_first (bytes_eq m o.name) Open (λ e. (o, refl, sym (d.0 e)))
-    (λ e x. denied d e (sym (ap (λ (y : OpenJob). y.name) (some_same o x.0 x.1) ∙ x.2)))
+    (λ e x. not_from_Decides (bytes_eq m o.name) d e (sym (ap (λ (y : OpenJob). y.name) (same_Some o x.0 x.1) ∙ x.2)))
     h
 
 pub held_open_first : (j : Option OpenJob) (h : ℕ) {f : OpenJob → Plan} {cs : List Case} {n : ℕ} →
     ((o : OpenJob) → j ≡ Some o → o.slot ≡ h → AsListed (f o) cs n) →
     AsListed (held_open j h f) (case 4 ((o : OpenJob) → Not ((j ≡ Some o) × (o.slot ≡ h))) ∷ cs) n
-held_open_first None h g = declines (λ o x. none_some o x.0)
+held_open_first None h g = declines (λ o x. let z = x.0 in cc)
 held_open_first (Some o) h g =
     kept_first (eqb o.slot h) NotOpen (λ e f. f o (refl, eqb-true o.slot h e))
-    (λ e x y. eqb-false o.slot h e (ap (λ (z : OpenJob). z.slot) (some_same o x y.0) ∙ y.1))
+    (λ e x y. eqb-false o.slot h e (ap (λ (z : OpenJob). z.slot) (same_Some o x y.0) ∙ y.1))
     (λ e. g o refl (eqb-true o.slot h e))

@@ -8,12 +8,12 @@ use Rattle.places.specs.Places.{Place, no_place}
 use Rattle.plans.specs.Slots.{Job, Slot, empty, live, erased, decoded, slots_in, usable, named, is_live, is_erased, job_of, lowest}
 use Rattle.plans.specs.Plans.{place_in, slot_named}
 use Rattle.plans.specs.Cases.{Not, LiveAt, HasJob, NamedJob, UsableAt}
-use Rattle.plans.proofs.Lowest.{lowest_some, lowest_none, named_live, usable_is, no}
+use Rattle.plans.proofs.Lowest.{lowest_some, lowest_none, named_live, usable_is}
 
 -- SLOTS
 
-pub live_same : (i j : Job) → live i ≡ live j → i ≡ j
-live_same i j e = cc
+pub live_same : {i j : Job} → live i ≡ live j → i ≡ j
+live_same e = cc
 
 -- a place on the card and its slot
 pub slot_at : (ps : List Place) (k : ℕ) → k < length ps → get_or (slots_in ps) k empty ≡ decoded (place_in ps k)
@@ -28,10 +28,10 @@ taken_inside ps k f = at (cases_lt k (length ps))
     at (inr h) = absurd (f (get_or_past (slots_in ps) k empty (omega (arith, length-map ps decoded))))
 
 live_inside : (ps : List Place) (k : ℕ) (j : Job) → LiveAt ps k j → k < length ps
-live_inside ps k j e = taken_inside ps k (λ h. no (ap is_live (sym h ∙ e)))
+live_inside ps k j e = taken_inside ps k (λ h. let z = ap is_live (sym h ∙ e) in cc)
 
 pub erased_inside : (ps : List Place) (k : ℕ) (j : Job) → get_or (slots_in ps) k empty ≡ erased j → k < length ps
-erased_inside ps k j e = taken_inside ps k (λ h. no (ap is_erased (sym h ∙ e)))
+erased_inside ps k j e = taken_inside ps k (λ h. let z = ap is_erased (sym h ∙ e) in cc)
 
 -- JOBS OF A PADDED NAME
 
@@ -76,7 +76,7 @@ pub named_once : (ps : List Place) (n : List ℕ) (i j : Job) → NamedJob ps n 
 named_once ps n i j a b = at (cases_order a.slot b.slot)
   where
     at : (a.slot ≡ b.slot) ⊎ ((a.slot < b.slot) ⊎ (b.slot < a.slot)) → i ≡ j
-    at (inl e) = live_same i j (sym a.lives ∙ (ap (λ k. get_or (slots_in ps) k empty) e ∙ b.lives))
+    at (inl e) = live_same (sym a.lives ∙ (ap (λ k. get_or (slots_in ps) k empty) e ∙ b.lives))
     at (inr (inl h)) = absurd (b.lowest a.slot i h a.lives a.name)
     at (inr (inr h)) = absurd (a.lowest b.slot j h b.lives b.name)
 

@@ -13,7 +13,7 @@ use Rattle.plans.specs.Memory.{OpenJob, Memory, job_length}
 use Rattle.plans.specs.Calls.{Call, mount, save, open', put, commit, finish, rename, erase, wipe, sweep, undelete, load, read, list, same, check, Answer, loaded, bytes}
 use Rattle.plans.specs.Plans.{place_in, slot_named, job_saved, mount_by, put_by, finish_by, sectors_full, open_at, reading, mount_plan, save_plan, open_plan, put_plan, commit_plan, rename_plan, erase_plan, wipe_plan, undelete_plan, load_plan, read_plan, same_plan, restored, card_places, plan}
 use Rattle.plans.specs.Cases.{Not, IsLawfulName, HasJob, NamedJob, UsableAt, FieldFails, case, cases_on, cases, RefusesAsListed}
-use Rattle.plans.proofs.Lowest.{none_some, some_same}
+use Rattle.std.proofs.lemmas.Option.{same_Some}
 use Rattle.plans.proofs.Named.{named_found, named_once, named_has, live_found, live_missing, has_found, has_missing, usable_found, usable_missing}
 use Rattle.plans.proofs.Firsts.{AsListed, goes, tells, passes, refuses, declines, unless_first, unless_decided, cond_first, found_first, two_found_first, vacant_first, all_shut_first, named_shut_first, held_open_first}
 use Rattle.plans.proofs.Words.{name_byte_decides, lawful_name_decides, two_lawful_decide, known_type_decides}
@@ -22,7 +22,7 @@ use Rattle.plans.proofs.Restoring.{restores, restorable_found, restorable_passes
 -- MOUNT
 
 failing_found : (fs : List Field) (k : ℕ) → first_failing fs ≡ Some k → (i : ℕ) × (i < length fs) × ((get_or fs i (field 0 false)).holds ≡ false)
-failing_found [] k e = none_some k e
+failing_found [] k e = cc
 failing_found (f ∷ fs) k e = at f.holds refl (failing_found fs k) e
   where
     at : (b : Bool) → f.holds ≡ b → (first_failing fs ≡ Some k → (i : ℕ) × (i < length fs) × ((get_or fs i (field 0 false)).holds ≡ false)) →
@@ -39,7 +39,7 @@ none_failing (f ∷ fs) e i h = at f.holds refl (none_failing fs) e i h
         cond b (first_failing fs) (Some f.offset) ≡ None → (i : ℕ) → i < suc (length fs) → (get_or (f ∷ fs) i (field 0 false)).holds ≡ true
     at true h g x zero l = h
     at true h g x (suc i) l = g x i (omega arith)
-    at false h g x i l = none_some f.offset (sym x)
+    at false h g x i l = cc
 
 mount_by_listed : (o : Option ℕ) (k : ℕ) (P : Type 0) (n : ℕ) → (o ≡ None → Not P) → ((i : ℕ) → o ≡ Some i → P) →
     AsListed (mount_by o k) (case 7 P ∷ []) n
@@ -120,7 +120,7 @@ put_listed s ps q h x n =
     held_open_first q.job h λ o e f.
     unless_first (leb (job_length o + length x) 65535) TooLong
     (λ l y.
-    let one : o ≡ y.0 = some_same o y.0 (sym e ∙ y.1.0) in
+    let one : o ≡ y.0 = same_Some o y.0 (sym e ∙ y.1.0) in
     let long : 65535 < job_length o + length x = subst (λ (z : OpenJob). 65535 < job_length z + length x) (sym one) y.2 in
     let short = leb-true (job_length o + length x) 65535 l in
     omega (arith, long, short))

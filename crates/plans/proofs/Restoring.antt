@@ -13,23 +13,22 @@ use Rattle.places.specs.Places.{Place}
 use Rattle.plans.specs.Slots.{Job, Slot, empty, held, live, erased, damaged, job_in, as_slot, slot_by, decoded, is_live, is_erased}
 use Rattle.plans.specs.Plans.{place_in, restored, restored_slot}
 use Rattle.plans.specs.Cases.{Restorable}
-use Rattle.plans.proofs.Lowest.{no}
 use Rattle.plans.proofs.Named.{live_same, slot_at, erased_inside}
 use Rattle.plans.proofs.Words.{lawful_name_decides, name_byte_decides}
 
 live_is : (y : Slot) → is_live y ≡ true → (j : Job) × (y ≡ live j)
-live_is empty e = no e
-live_is (held m) e = no e
+live_is empty e = cc
+live_is (held m) e = cc
 live_is (live j) e = (j, refl)
-live_is (erased j) e = no e
-live_is damaged e = no e
+live_is (erased j) e = cc
+live_is damaged e = cc
 
 erased_is : (y : Slot) → is_erased y ≡ true → (j : Job) × (y ≡ erased j)
-erased_is empty e = no e
-erased_is (held m) e = no e
-erased_is (live j) e = no e
+erased_is empty e = cc
+erased_is (held m) e = cc
+erased_is (live j) e = cc
 erased_is (erased j) e = (j, refl)
-erased_is damaged e = no e
+erased_is damaged e = cc
 
 -- THE NAME OF A LIVE SLOT
 
@@ -41,11 +40,11 @@ says_live Live = true
 says_live Damaged = false
 
 live_state : (t : EntryState) (i j : Job) → as_slot t i ≡ live j → (says_live t ≡ true) × (i ≡ j)
-live_state Empty i j e = no (ap is_live e)
-live_state (Held n) i j e = no (ap is_live e)
-live_state Erased i j e = no (ap is_live e)
-live_state Live i j e = (refl, live_same i j e)
-live_state Damaged i j e = no (ap is_live e)
+live_state Empty i j e = let z = ap is_live e in cc
+live_state (Held n) i j e = let z = ap is_live e in cc
+live_state Erased i j e = let z = ap is_live e in cc
+live_state Live i j e = (refl, live_same e)
+live_state Damaged i j e = let z = ap is_live e in cc
 
 live_lawful : (b : Bool) (e : Entry) → says_live (state_by b e) ≡ true → b ≡ true
 unfolding state_by
@@ -70,7 +69,7 @@ short_unlawful x y ys h z e =
     let l = (lawful_name_decides (take 16 (x ++ y ∷ ys))).0 e in
     let long : length x < length (take 16 (x ++ y ∷ ys)) = rw (length-take 16 (x ++ y ∷ ys), length-append x (y ∷ ys)) (omega arith) in
     let ended : get_or (take 16 (x ++ y ∷ ys)) (length x) 0 ≡ 0 = get_or-take 16 (x ++ y ∷ ys) (length x) 0 h ∙ (get_or_at x y ys 0 (length x) refl ∙ z) in
-    no ((name_byte_decides 0).1 (rw ended at (l.each (length x) long)))
+    let z = (name_byte_decides 0).1 (rw ended at (l.each (length x) long)) in cc
 
 restored_whole : (b : List ℕ) (letter : ℕ) → lawful_name (entry_in (entry_bytes (first_set (entry_in b) letter))).name ≡ true → 16 ≤ length b
 unfolding entry_in entry_rest
