@@ -1,5 +1,6 @@
 -- What a write leaves: the entries and the blocks that it does not concern.
 use Rattle.std.proofs.Common.{◌≡◌, ℕ, zero, suc, ◌+◌, ◌-◌, ◌*◌, ◌/◌, ◌%◌, ◌<◌, ◌≤◌, ◌≢◌, ◌⊎◌, List, [], ◌∷◌, ◌++◌, length, get_or, take, drop, set, sym, refl, ap, ◌∙◌, inl, inr, zero-add, arith}
+use Rattle.std.proofs.Math.Seq.{take-set-lt}
 use Rattle.device.proofs.ByteLists.{take-bytes, drop-bytes, append-bytes}
 use Rattle.std.proofs.lemmas.List.{get_or-set_same, get_or-set_other, length-set, drop-set-lt, drop-set-add, take-set-le, length-take-le, length-drop, get_or-take, get_or-drop}
 use Rattle.std.proofs.lemmas.Bool.{cases_eq, cases_lt}
@@ -7,7 +8,7 @@ use Rattle.device.specs.Meaning.{Sectors, Bytes}
 use Rattle.layout.specs.declared.sizes.Layout.{Layout}
 use Rattle.places.specs.SlotWrites.{SlotAct, SlotWrite, enter, fill, spliced, written, all_written}
 use Rattle.places.specs.Places.{Sound, Shaped, Place, place, places, no_place, acted, moved, all_moved, FitsAct, LayoutsSound, WritesRefine}
-use Rattle.places.proofs.Lists.{spliced_here, spliced_below, spliced_above, length-spliced, counted_set, length-counted, get_or-counted, take-set_in}
+use Rattle.places.proofs.Lists.{spliced_here, spliced_below, spliced_above, length-spliced, counted_set, length-counted, get_or-counted}
 
 pub dir_below : (c : Layout) → Sound c → (k : ℕ) → k < c.slots → 1 + k / 16 < c.area
 dir_below c v k h = omega arith
@@ -67,7 +68,7 @@ place_here c v s w k h (enter e) l =
 place_here c v s w k h (fill i x) l =
     same_place _ _ refl refl
     (rw (get_or-set_other s (c.area + 128 * k + i) (1 + k / 16) x [] (omega (arith, dir_below c v k h))))
-    (rw (drop-set-add (c.area + 128 * k) s i x) (take-set_in 128 (drop (c.area + 128 * k) s) i x))
+    (rw (drop-set-add (c.area + 128 * k) s i x) (take-set-lt 128 (drop (c.area + 128 * k) s) i x l.2))
 
 place_other : (c : Layout) → Sound c → (s : Sectors) → Shaped c s → (k : ℕ) → k < c.slots → (a : SlotAct) → FitsAct a → (j : ℕ) → j < c.slots → j ≢ k → place c (act_written c s k a) j ≡ place c s j
 unfolding place

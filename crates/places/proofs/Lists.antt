@@ -1,5 +1,5 @@
 -- Lists: an entry spliced into a sector, and a list given by a function of the place.
-use Rattle.std.proofs.Common.{◌≡◌, ℕ, zero, suc, ◌+◌, ◌<◌, ◌≤◌, ◌≢◌, List, [], ◌∷◌, ◌++◌, length, get_or, take, drop, set, refl, ap, ◌∙◌, ap₂, add-zero, arith}
+use Rattle.std.proofs.Common.{◌≡◌, ℕ, zero, suc, ◌+◌, ◌<◌, ◌≤◌, ◌≢◌, List, ◌∷◌, ◌++◌, length, get_or, take, drop, set, refl, ap, ◌∙◌, ap₂, add-zero, arith}
 use Rattle.std.proofs.lemmas.List.{length-append, length-drop, length-take-le, take-append-le, take-take, drop-take, take_at, drop_at}
 use Rattle.std.proofs.lemmas.Slice.{drop-put_mid}
 use Rattle.places.specs.SlotWrites.{spliced}
@@ -46,9 +46,3 @@ pub get_or-counted : {X : Type 0} (f : ℕ → X) (i n k : ℕ) (d : X) → k < 
 get_or-counted f i zero k d l = absurd (omega arith)
 get_or-counted f i (suc n) zero d l = rw add-zero
 get_or-counted f i (suc n) (suc k) d l = get_or-counted f (suc i) n k d (omega arith) ∙ ap f (omega arith)
-
-pub take-set_in : {X : Type 0} (n : ℕ) (l : List X) (i : ℕ) (a : X) → take n (set l i a) ≡ set (take n l) i a
-take-set_in zero l i a = refl
-take-set_in (suc n) [] i a = refl
-take-set_in (suc n) (x ∷ xs) zero a = refl
-take-set_in (suc n) (x ∷ xs) (suc i) a = ap (λ z. x ∷ z) (take-set_in n xs i a)
