@@ -1,6 +1,6 @@
 // Jobs by their names.
 ghost use Rattle.std.specs.Prelude.{◌≡◌, ◌<◌, ◌≤◌, length};
-ghost use Rattle.device.specs.Calls.{Keeps, OfSound};
+ghost use Rattle.device.specs.Calls.{KeepsFaults, Means};
 ghost use Rattle.volume.specs.Kept.{kept};
 ghost use Rattle.changing.specs.Shut.{open_named, FindsShut};
 
@@ -22,8 +22,8 @@ pub(crate) fn find_shut<D: SectorDevice>(
     memory: &Memory,
     name: &[u8],
 ) -> Result<Found, Refusal>
-    ensures keeps { Keeps D.SectorDevice device.old device.new }
-    ensures finds { OfSound D.SectorDevice device.old device.new (λ t m m'. memory.now.size ≤ length m.sectors → FindsShut t m m' (kept memory.now) name.now result) }
+    ensures keeps { KeepsFaults D.SectorDevice device.old device.new }
+    ensures finds { Means D.SectorDevice device.old device.new (λ t m m'. memory.now.size ≤ length m.sectors → FindsShut t m m' (kept memory.now) name.now result) }
 {
     let name = Name::new(name).ok_or(Refusal::Name)?.padded();
     if is_open(memory, &name) {
