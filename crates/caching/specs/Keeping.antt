@@ -27,7 +27,7 @@ may_accept-prop steady = Unit-prop
 may_accept-prop well = Unit-prop
 may_accept-prop failed = λ x y. absurd x
 
--- there is at most one proof of it
+-- there is at most one proof of it, as a ghost field asks
 pub true_of-prop : (m : Meaning) (xs : Places) → IsProp (TrueOf m xs)
 true_of-prop m xs x y = λ i n b k. (
   le_prop (x n b k).0 (y n b k).0 i,

@@ -7,7 +7,7 @@ use device::{Act, Fault, Geometry, SectorDevice, check_transfer, zero_sector};
 use kept::{KeptSector, find, give_back};
 use layers::passed_on;
 
-// The kept sectors, and the place that the next one takes.
+// The kept sectors, and the place that the next one takes: a ring in fixed memory.
 #[derive(Clone, Copy)]
 struct Entries {
     places: [Option<KeptSector>; 4],
@@ -50,7 +50,7 @@ impl Entries {
     }
 }
 
-// A device with some of its sectors in memory.
+// A device with some of its sectors in memory. That they are what lies beneath is a ghost field.
 #[derive(Drop)]
 pub struct Cache<D: SectorDevice> {
     beneath: D,

@@ -5,7 +5,7 @@ use Rattle.device.specs.declared.sector_device.SectorDevice.{Ghosts}
 use Rattle.layers.specs.Layer.{passed_on}
 use Rattle.layers.specs.declared.counting.Counting.{Counting}
 
--- it means what the device beneath means, and is sound where that device is
+-- it means what the device beneath means
 abbrev pub counting_layer : {D : Type 0} → Ghosts D → Ghosts (Counting D)
 counting_layer g = record {
   meaning = λ d. g.meaning d.beneath;

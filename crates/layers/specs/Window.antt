@@ -24,7 +24,7 @@ window_of m first count = record {
   condition = m.condition;
 }
 
--- it is sound where the device beneath is, and counts that device's sector first + n as its sector n
+-- it counts the sector first + n of the device beneath as its sector n
 abbrev pub window_layer : {D : Type 0} → Ghosts D → Ghosts (Window D)
 window_layer g = record {
   meaning = λ d. window_of (g.meaning d.beneath) d.span.first d.span.count;
@@ -45,7 +45,7 @@ pub record WritesBeneath (t : Faults) (m m' : Meaning) (first count n : ℕ) (b 
   pub otherwise : length b ≡ 512 → n < window_count (length m.sectors) first count →
       (a : Result (Unit {0}) Fault) × (r ≡ passed_answer a) × WriteAnswer t m m' (first + n) b a
 
--- the same of a window d before and d' after, over a sound device
+-- the same of a window d before and d' after
 abbrev pub AsksRead : {D : Type 0} → Ghosts D → (d d' : Window D) (n : ℕ) (b b' : List ℕ) → Result (Unit {0}) Fault → Type 0
 AsksRead g d d' n b b' r =
     ReadsBeneath (g.faults d.beneath) (g.meaning d.beneath) (g.meaning d'.beneath) d.span.first d.span.count n b b' r

@@ -69,7 +69,7 @@ place_sound-prop : (s : ℕ) (o : Option KeptSector) → IsProp (PlaceSound s o)
 place_sound-prop s (Some x) = kept_sound-prop s x
 place_sound-prop s None = Unit-prop
 
--- there is at most one proof of it
+-- there is at most one proof of it, as a ghost field asks
 pub sparse_sound-prop : (xs : Places) (s : ℕ) → IsProp (SparseSound xs s)
 sparse_sound-prop xs s p q = λ i. record {
   few = le_prop p.few q.few i;

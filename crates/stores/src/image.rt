@@ -5,7 +5,7 @@ ghost use Rattle.stores.specs.Image.{image_count, image_of, ImageLength};
 
 use device::{Act, Fault, Geometry, SectorDevice, check_transfer};
 
-// The number of sectors is told from the length at each call, so any bytes make a sound device.
+// The number of sectors is told from the length at each call, so any bytes make a device.
 #[derive(Drop)]
 pub struct ImageDevice<'a> {
     bytes: &'a mut [u8],

@@ -7,12 +7,14 @@ ghost use Rattle.stores.specs.Sparse.{SparseSize, sparse_count, sparse_sectors, 
 use device::{Act, Cause, Fault, Geometry, SectorDevice, check_transfer, zero_sector};
 use kept::{KeptSector, find, give_back};
 
-// The table is the caller's: as many sectors that are not all zero can be kept as it has places.
+// The table is the caller's, since there is no heap for a map: as many sectors that are not all zero can be kept as it
+// has places. What holds of it is a ghost field, so that no call asks for it.
 #[derive(Drop)]
 pub struct SparseDevice<'a> {
     places: &'a mut [Option<KeptSector>],
     size: u32,
     geometry: Geometry,
+    // a flag, since no value goes with it
     failed: bool,
     ghost sound: { SparseSound places.now size } by { sparse_sound-prop places.now size },
 }
