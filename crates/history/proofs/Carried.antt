@@ -6,11 +6,12 @@ use Rattle.layout.specs.declared.sizes.Layout.{Layout}
 use Rattle.places.specs.Places.{Place, places, all_moved, Fits, Shaped}
 use Rattle.places.specs.SlotWrites.{SlotWrite}
 use Rattle.places.proofs.Frames.{Full, places_full, place_slot, place_first, layouts_sound, length-places}
+use Rattle.plans.specs.Slots.{Job, live, decoded}
 use Rattle.plans.specs.Memory.{OpenJob}
 use Rattle.plans.specs.Calls.{Call}
 use Rattle.plans.specs.Plans.{place_in, entry_of}
 use Rattle.plans.proofs.Blocks.{Wide, wide_from}
-use Rattle.plans.proofs.Entries.{FitsEntry, in_fits}
+use Rattle.plans.proofs.Entries.{FitsEntry, in_fits, IsLive, is_live_by}
 use Rattle.history.specs.Model.{Model, counted, done}
 use Rattle.history.specs.Agreement.{Agrees}
 use Rattle.history.specs.Preserved.{entries_written}
@@ -38,6 +39,11 @@ full_wide p f = wide_from p.sectors (λ i l. f.whole i (omega (arith, f.many)))
 
 pub entry_fits : (p : Place) → Full p → FitsEntry (entry_of p)
 entry_fits p f = in_fits p.entry f.entry_long f.entry_bytes
+
+-- what a live slot's entry says
+pub live_entry_of : (p : Place) (j : Job) → decoded p ≡ live j → IsLive p.slot p.first (entry_of p) p.sectors j
+unfolding decoded
+live_entry_of p j d = is_live_by p.slot p.first (entry_of p) p.sectors j d
 
 -- every first part of the writes keeps the model as the directory writes in it count the call, and so do all of them
 -- for the accepted call, with the job that is open then

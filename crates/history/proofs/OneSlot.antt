@@ -15,13 +15,14 @@ use Rattle.plans.specs.Memory.{OpenJob}
 use Rattle.plans.specs.Calls.{Call, rename, erase, undelete}
 use Rattle.plans.specs.Plans.{place_in, entry_of, entering, restored, restored_slot}
 use Rattle.plans.proofs.Blocks.{ran}
-use Rattle.plans.proofs.Entries.{FitsEntry, renamed_fits, first_fits, entered_fits, entered, lawful_short, lawful_bytes, live_by, erased_by, IsLive, is_live_by, is_erased_by}
+use Rattle.plans.proofs.Entries.{FitsEntry, renamed_fits, first_fits, entered_fits, entered, lawful_short, lawful_bytes, live_by, erased_by, is_live_by, is_erased_by}
+use Rattle.plans.proofs.Lowest.{live_is}
 use Rattle.history.specs.Model.{Model, changed, with_name, with_slots, once, counted, done}
 use Rattle.history.specs.Agreement.{seen, Unique, Agrees}
 use Rattle.history.specs.Preserved.{entries_written}
 use Rattle.history.proofs.Writing.{ToSlot, to_slot_take, moved_one, parts_one}
 use Rattle.history.proofs.Agreeing.{Named, unique_set, Apart, agrees_set, not_live_apart, slot_shown, not_named}
-use Rattle.history.proofs.Carried.{LaidOut, Carried, entry_fits}
+use Rattle.history.proofs.Carried.{LaidOut, Carried, entry_fits, live_entry_of}
 
 -- NAMES PADDED
 
@@ -81,11 +82,6 @@ one_slot c m ps o call k F ws a h t f cs ds us ap' e =
 
 -- ERASE, RENAME, UNDELETE
 
--- what a live slot's entry says
-live_entry : (p : Place) (j : Job) → decoded p ≡ live j → IsLive p.slot p.first (entry_of p) p.sectors j
-unfolding decoded
-live_entry p j d = is_live_by p.slot p.first (entry_of p) p.sectors j d
-
 -- a job with another name
 named_job : (e : Entry) (s : Sectors) (n : List ℕ) → job_in (renamed e n) s ≡ with_name (job_in e s) n
 unfolding job_in
@@ -136,7 +132,7 @@ erase_carried c m ps o l a n k j h ap' =
     let p : Place = place_in ps k in
     let e : Entry = entry_of p in
     let fe : FitsEntry e = entry_fits p (l.full k h.inside) in
-    let s = live_entry p j h.shows in
+    let s = live_entry_of p j h.shows in
     let first : get_or (set e.name 0 0x7F) 0 0 ≡ 127 = get_or-set_same e.name 0 0x7F 0 (omega (arith, fe.name_long)) in
     let job : job_in (first_set e 0x7F) p.sectors ≡ with_name j (set j.name 0 0x7F) =
     named_job e p.sectors (set e.name 0 0x7F) ∙ ap₂ with_name s.job (ap (λ (z : List ℕ). set z 0 0x7F) (job_name e p.sectors j s.job)) in
@@ -159,7 +155,7 @@ rename_carried c m ps o l a old new g k j h ap' v =
     let p : Place = place_in ps k in
     let e : Entry = entry_of p in
     let fe : FitsEntry e = entry_fits p (l.full k h.inside) in
-    let s = live_entry p j h.shows in
+    let s = live_entry_of p j h.shows in
     let pl = padded_lawful new g in
     let job : job_in (renamed e (padded new)) p.sectors ≡ with_name j (padded new) =
     named_job e p.sectors (padded new) ∙ ap (λ (z : Job). with_name z (padded new)) s.job in
@@ -180,13 +176,6 @@ seen_erased (held n) e = cc
 seen_erased (live j) e = cc
 seen_erased (erased j) e = (j, refl)
 seen_erased damaged e = cc
-
-live_is : (x : Slot) → is_live x ≡ true → (j : Job) × (x ≡ live j)
-live_is empty e = cc
-live_is (held n) e = cc
-live_is (live j) e = (j, refl)
-live_is (erased j) e = cc
-live_is damaged e = cc
 
 erased_entry : (p : Place) (j : Job) → decoded p ≡ erased j → (get_or (entry_of p).name 0 0 ≡ 127) × (job_in (entry_of p) p.sectors ≡ j)
 unfolding decoded

@@ -14,18 +14,14 @@ use Rattle.places.proofs.Frames.{Full}
 use Rattle.plans.specs.Slots.{Job, live, bytes_in, job_in, decoded}
 use Rattle.plans.specs.Plans.{filling, chunk, entry_of}
 use Rattle.plans.proofs.Blocks.{take_app, length-bytes_in, ran, with_sectors, laid, ran_filling, bytes_in_laid, chunks_full, bytes_in_chunks}
-use Rattle.plans.proofs.Entries.{resized_fits, entered, live_by, IsLive, is_live_by}
+use Rattle.plans.proofs.Entries.{resized_fits, entered, live_by}
 use Rattle.history.specs.Model.{with_more}
-use Rattle.history.proofs.Carried.{full_wide, entry_fits}
+use Rattle.history.proofs.Carried.{full_wide, entry_fits, live_entry_of}
 
 -- A LIVE JOB AND ITS PLACE
 
 pub length_block : (p : Place) → Full p → length (bytes_in p.sectors) ≡ 65536
 length_block p v = omega (arith, length-bytes_in p.sectors (full_wide p v), v.many)
-
-pub live_entry_of : (p : Place) (j : Job) → decoded p ≡ live j → IsLive p.slot p.first (entry_of p) p.sectors j
-unfolding decoded
-live_entry_of p j d = is_live_by p.slot p.first (entry_of p) p.sectors j d
 
 pub live_bytes : (p : Place) (j : Job) → decoded p ≡ live j → take (entry_of p).size (bytes_in p.sectors) ≡ j.bytes
 unfolding job_in

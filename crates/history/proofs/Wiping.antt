@@ -120,7 +120,7 @@ wiped_part p k (suc n) j h e l (suc i) =
     by zero = ap (λ (z : ℕ). seen (held_or_empty z)) (sym e)
     by (suc d) = refl
 
-to_slot_wipe : (k n : ℕ) → ToSlot k (wipe_writes k n)
+pub to_slot_wipe : (k n : ℕ) → ToSlot k (wipe_writes k n)
 to_slot_wipe k zero = (refl, tt)
 to_slot_wipe k (suc n) = (refl, to_slot_emptying k (suc n))
 

@@ -1,5 +1,5 @@
 -- An accepted wipe leaves zeros in the job's sectors.
-use Rattle.std.proofs.Common.{◌≡◌, ℕ, zero, suc, ◌+◌, ◌<◌, ◌≤◌, true, List, [], ◌∷◌, ◌++◌, length, get_or, drop, set, Some, sym, refl, ap, ◌∙◌, subst, arith}
+use Rattle.std.proofs.Common.{◌≡◌, ℕ, zero, suc, ◌+◌, ◌<◌, ◌≤◌, true, List, [], ◌∷◌, ◌++◌, length, get_or, drop, set, Some, sym, ap, ◌∙◌, subst, arith}
 use Rattle.std.proofs.lemmas.List.{get_or_append_left, get_or-set_same}
 use Rattle.device.specs.Meaning.{Sectors, zeros}
 use Rattle.layout.specs.Extents.{extent_of}
@@ -24,8 +24,8 @@ use Rattle.history.specs.Agreement.{Knows, Holds}
 use Rattle.history.specs.Preserved.{WipeZeroes}
 use Rattle.history.proofs.Agreeing.{Named, named_hit}
 use Rattle.history.proofs.Carried.{Carried, laid_out}
-use Rattle.history.proofs.Writing.{ToSlot, moved_one}
-use Rattle.history.proofs.Wiping.{to_slot_emptying, live_sectors, wipe_carried}
+use Rattle.history.proofs.Writing.{moved_one}
+use Rattle.history.proofs.Wiping.{to_slot_wipe, live_sectors, wipe_carried}
 use Rattle.history.proofs.Preserving.{unless_keeps, named_shut_keeps, found_keeps, apart_from}
 
 -- zeros below n, over any sectors
@@ -43,10 +43,6 @@ wiped_sectors p k (suc n) h i l =
     ran_append p₁ (filling k 0 zero_chunk (suc n)) (entering k no_entry ∷ [])
     ∙ ap (λ (z : Place). acted z (enter (entry_bytes no_entry))) (ran_filling p₁ k 0 zero_chunk (suc n) (omega arith)) in
     ap (λ (z : Place). get_or z.sectors i []) e ∙ laid_zeros p.sectors (suc n) i l
-
-to_slot_wipe : (k n : ℕ) → ToSlot k (wipe_writes k n)
-to_slot_wipe k zero = (refl, tt)
-to_slot_wipe k (suc n) = (refl, to_slot_emptying k (suc n))
 
 -- the plan of a wipe that writes
 abbrev Zeroed : (size : ℕ) (m : Model) (s : Sectors) (n : List ℕ) → Plan → Type 0

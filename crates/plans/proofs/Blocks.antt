@@ -66,7 +66,7 @@ with_sectors p s = record { slot = p.slot; first = p.first; entry = p.entry; sec
 abbrev pub laid : Sectors → (f : ℕ) → (ℕ → List ℕ) → ℕ → Sectors
 laid s f x n = take f s ++ (counted_up x 0 n ++ drop (f + n) s)
 
-abbrev write_at : (k f : ℕ) → (ℕ → List ℕ) → ℕ → SlotWrite
+abbrev pub write_at : (k f : ℕ) → (ℕ → List ℕ) → ℕ → SlotWrite
 write_at k f x i = to_slot k (fill (f + i) (x i))
 
 laid_from : (p : Place) (k f : ℕ) (x : ℕ → List ℕ) (i n : ℕ) → f + i + n ≤ length p.sectors →

@@ -1,7 +1,7 @@
 -- Searches: what the lowest place that passes says of it and of those below; and what slots pass.
 use Rattle.std.proofs.Common.{◌≡◌, ℕ, zero, suc, ◌<◌, Bool, true, false, cond, ◌⊎◌, List, [], ◌∷◌, length, get_or, Some, None, Option, refl, inl, inr, arith}
 use Rattle.std.specs.Str.{bytes_eq}
-use Rattle.plans.specs.Slots.{Job, Slot, empty, held, live, erased, damaged, usable, named, one_up, lowest}
+use Rattle.plans.specs.Slots.{Job, Slot, empty, held, live, erased, damaged, usable, named, is_live, one_up, lowest}
 
 -- what a found place says: it lies in the list and passes, and nothing below it passes
 pub record Lowest {X : Type 0} (p : X → Bool) (xs : List X) (d : X) (k : ℕ) : Type 0 where
@@ -50,3 +50,10 @@ usable_is (held m) e = cc
 usable_is (live j) e = cc
 usable_is (erased j) e = inr (j, refl)
 usable_is damaged e = cc
+
+pub live_is : (y : Slot) → is_live y ≡ true → (j : Job) × (y ≡ live j)
+live_is empty e = cc
+live_is (held m) e = cc
+live_is (live j) e = (j, refl)
+live_is (erased j) e = cc
+live_is damaged e = cc

@@ -13,15 +13,9 @@ use Rattle.places.specs.Places.{Place}
 use Rattle.plans.specs.Slots.{Job, Slot, empty, held, live, erased, damaged, job_in, as_slot, slot_by, decoded, is_live, is_erased}
 use Rattle.plans.specs.Plans.{place_in, restored, restored_slot}
 use Rattle.plans.specs.Cases.{Restorable}
+use Rattle.plans.proofs.Lowest.{live_is}
 use Rattle.plans.proofs.Named.{live_same, slot_at, erased_inside}
 use Rattle.plans.proofs.Words.{lawful_name_decides, name_byte_decides}
-
-live_is : (y : Slot) → is_live y ≡ true → (j : Job) × (y ≡ live j)
-live_is empty e = cc
-live_is (held m) e = cc
-live_is (live j) e = (j, refl)
-live_is (erased j) e = cc
-live_is damaged e = cc
 
 erased_is : (y : Slot) → is_erased y ≡ true → (j : Job) × (y ≡ erased j)
 erased_is empty e = cc

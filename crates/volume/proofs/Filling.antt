@@ -14,20 +14,16 @@ use Rattle.runs.specs.Writes.{SectorWrite, write_of, applied, with_sectors, fail
 use Rattle.runs.proofs.Runs.{length-zeroing, get_or-zeroing, take-zeroing}
 use Rattle.std.proofs.Math.Seq.{take-append-add}
 use Rattle.places.specs.Places.{counted_up}
-use Rattle.places.specs.SlotWrites.{SlotWrite, fill, all_written}
+use Rattle.places.specs.SlotWrites.{SlotWrite, all_written}
 use Rattle.places.proofs.Lists.{get_or-counted}
-use Rattle.plans.specs.Plans.{Reads, never, to_slot, filling, chunk, zero_chunk}
-use Rattle.plans.proofs.Blocks.{length-filling, take-filling, length-chunk}
+use Rattle.plans.specs.Plans.{Reads, never, filling, chunk, zero_chunk}
+use Rattle.plans.proofs.Blocks.{write_at, length-filling, take-filling, length-chunk}
 use Rattle.volume.specs.Directory.{Room}
 use Rattle.volume.specs.Performing.{Performed, sector_of, no_write, Cut, at_write, Runs}
 use Rattle.volume.proofs.Glue.{performed_performed, performed_cut, performed_none, cut_more, room_after, looks_never}
 use Rattle.volume.proofs.Entering.{writes_at, one_runs}
 
 -- THE WRITES
-
--- the write of sector f + i of a block
-abbrev wrote : (k f : ℕ) → (ℕ → List ℕ) → ℕ → SlotWrite
-wrote k f x i = to_slot k (fill (f + i) (x i))
 
 -- a list counted up, in two parts
 counted_split : {X : Type 0} (g : ℕ → X) (a j r : ℕ) → counted_up g a (j + r) ≡ counted_up g a j ++ counted_up g (a + j) r
@@ -40,20 +36,20 @@ counted_split g a (suc j) r =
     let y : suc a + j ≡ a + suc j = omega arith in
     ap (counted_up g a) x ∙ ap (λ t. g a ∷ t) (counted_split g (suc a) j r ∙ ap (λ (i : ℕ). counted_up g (suc a) j ++ counted_up g i r) y)
 
-pub get_or-filling : (k f : ℕ) (x : ℕ → List ℕ) (n i : ℕ) → i < n → get_or (filling k f x n) i no_write ≡ wrote k f x i
+pub get_or-filling : (k f : ℕ) (x : ℕ → List ℕ) (n i : ℕ) → i < n → get_or (filling k f x n) i no_write ≡ write_at k f x i
 unfolding filling
-get_or-filling k f x n i h = get_or-counted (wrote k f x) 0 n i no_write h ∙ ap (wrote k f x) (zero-add i)
+get_or-filling k f x n i h = get_or-counted (write_at k f x) 0 n i no_write h ∙ ap (write_at k f x) (zero-add i)
 
-pub filling_more : (k f : ℕ) (x : ℕ → List ℕ) (i : ℕ) → filling k f x (i + 1) ≡ filling k f x i ++ (wrote k f x i ∷ [])
+pub filling_more : (k f : ℕ) (x : ℕ → List ℕ) (i : ℕ) → filling k f x (i + 1) ≡ filling k f x i ++ (write_at k f x i ∷ [])
 unfolding filling
 filling_more k f x i =
-    counted_split (wrote k f x) 0 i 1 ∙ ap (λ (j : ℕ). counted_up (wrote k f x) 0 i ++ (wrote k f x j ∷ [])) (zero-add i)
+    counted_split (write_at k f x) 0 i 1 ∙ ap (λ (j : ℕ). counted_up (write_at k f x) 0 i ++ (write_at k f x j ∷ [])) (zero-add i)
 
-pub filling_rest : (k f : ℕ) (x : ℕ → List ℕ) (i n : ℕ) → i ≤ n → filling k f x n ≡ filling k f x i ++ counted_up (wrote k f x) (0 + i) (n - i)
+pub filling_rest : (k f : ℕ) (x : ℕ → List ℕ) (i n : ℕ) → i ≤ n → filling k f x n ≡ filling k f x i ++ counted_up (write_at k f x) (0 + i) (n - i)
 unfolding filling
 filling_rest k f x i n h =
     let e : n ≡ i + (n - i) = omega arith in
-    ap (counted_up (wrote k f x) 0) e ∙ counted_split (wrote k f x) 0 i (n - i)
+    ap (counted_up (write_at k f x) 0) e ∙ counted_split (write_at k f x) 0 i (n - i)
 
 pub filling_none : (c : Layout) (m : Meaning) (k f : ℕ) (x : ℕ → List ℕ) → Performed c m m (filling k f x 0)
 unfolding filling
@@ -70,9 +66,9 @@ cut_of {t = t} {c = c} {rs = rs} {m = m} {m' = m'} {f = f} e p = subst (λ (ws :
 -- sector f + i of the block written, behind i others
 wrote_runs : {t u : Faults} (c : Layout) {m m₁ m₂ : Meaning} (k f : ℕ) (x : ℕ → List ℕ) (i : ℕ) (r : Result (Unit {0}) Fault) →
     Room c m → k < c.slots → f + i < 128 → length (x i) ≡ 512 → Within u t →
-    Performed c m m₁ (filling k f x i) → Writes u m₁ m₂ (block_of c k + (f + i)) (x i) r → Runs t c never m₁ m₂ (wrote k f x i ∷ []) r
+    Performed c m m₁ (filling k f x i) → Writes u m₁ m₂ (block_of c k + (f + i)) (x i) r → Runs t c never m₁ m₂ (write_at k f x i ∷ []) r
 wrote_runs c k f x i r h l b e y p w =
-    one_runs c never (wrote k f x i) r y refl refl e ((room_after h p).blocks k (f + i) l b) w
+    one_runs c never (write_at k f x i) r y refl refl e ((room_after h p).blocks k (f + i) l b) w
 
 pub filled_more : {u : Faults} (c : Layout) {m m₁ m₂ : Meaning} (k f : ℕ) (x : ℕ → List ℕ) (i : ℕ) → Room c m → k < c.slots → f + i < 128 → length (x i) ≡ 512 →
     Performed c m m₁ (filling k f x i) → Writes u m₁ m₂ (block_of c k + (f + i)) (x i) (Ok tt) → Performed c m m₂ (filling k f x (i + 1))
@@ -83,8 +79,8 @@ pub filled_cut : {t u : Faults} (c : Layout) {m m₁ m₂ : Meaning} (k f : ℕ)
     Performed c m m₁ (filling k f x i) → Writes u m₁ m₂ (block_of c k + (f + i)) (x i) (Err g) → Cut t c never m m₂ (filling k f x n) g
 filled_cut {t = t} c {m = m} {m₂ = m₂} k f x i n {g = g} y h l b j e p w =
     let ws = filling k f x i in
-    let vs = wrote k f x i ∷ [] in
-    let rest = counted_up (wrote k f x) (0 + (i + 1)) (n - (i + 1)) in
+    let vs = write_at k f x i ∷ [] in
+    let rest = counted_up (write_at k f x) (0 + (i + 1)) (n - (i + 1)) in
     let q : Cut t c never m m₂ (ws ++ vs) g =
     performed_cut y (λ j z. looks_never never vs (ws ++ vs) j (length ws + j) z) p (wrote_runs c k f x i (Err g) h l b e (λ a n f q. q) p w) in
     cut_of (sym (filling_rest k f x (i + 1) n (omega arith)))
@@ -188,7 +184,7 @@ data_cut c k {b = b} {i = i} j y h l s x e z p w =
 -- ZEROS
 
 zeroing_written : (c : Layout) (k : ℕ) (s : Sectors) (a i n : ℕ) → a ≡ block_of c k + (0 + i) →
-    applied s (zeroing a n) ≡ all_written c s (counted_up (wrote k 0 zero_chunk) i n)
+    applied s (zeroing a n) ≡ all_written c s (counted_up (write_at k 0 zero_chunk) i n)
 unfolding applied zeroing
 zeroing_written c k s a i zero e = refl
 zeroing_written c k s a i (suc n) e =
