@@ -24,7 +24,7 @@ impl Entries {
         }
     }
 
-    // Keeps sector n, in place of what was kept of it.
+    // Keeps sector n, in place of what was kept of it. It takes a slice, as a device's calls do.
     fn keep(&mut self, n: u32, bytes: &[u8])
         requires { length bytes.now ≡ 512 }
         ensures { KeptToo self.old.places self.new.places n bytes.now }

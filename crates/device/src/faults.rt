@@ -28,6 +28,7 @@ pub enum Act {
     Write = 2,
 }
 
+// Each kind has its own `number`: a trait, or a `From`, would need the same line for each.
 impl Act {
     pub fn number(self) -> u8
         ensures { result ≡ act_number self }

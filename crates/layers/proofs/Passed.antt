@@ -1,5 +1,5 @@
 -- What a layer passes on where it counts the sectors as the device beneath does.
-use Rattle.std.proofs.Common.{◌≡◌, ℕ, ◌<◌, ◌≤◌, List, length, Ok, Err, Result, sym, refl, ap, ◌∙◌, subst, arith}
+use Rattle.std.proofs.Common.{◌≡◌, ℕ, ◌<◌, ◌≤◌, List, length, Ok, Err, Result, sym, refl, subst, arith}
 use Rattle.device.specs.Faults.{Faults}
 use Rattle.device.specs.Meaning.{Meaning}
 use Rattle.device.specs.Transfers.{Reads, Writes, ReadAnswer, WriteAnswer}

@@ -9,7 +9,7 @@ use Rattle.device.specs.declared.faults.Fault.{Fault}
 use Rattle.device.specs.declared.faults.Geometry.{Geometry}
 use Rattle.device.specs.declared.faults.Cause.TheVariants.{Length, Range}
 use Rattle.device.specs.declared.faults.Act.TheVariants.{Write}
-use Rattle.stores.specs.Image.{sectors_in, image_count, image_of}
+use Rattle.stores.specs.Image.{image_count, image_of}
 use Rattle.stores.proofs.Images.{length-sectors_in}
 use Rattle.layers.specs.Layer.{passed_answer}
 use Rattle.layers.specs.declared.window.Span.{Span}

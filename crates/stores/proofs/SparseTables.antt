@@ -1,7 +1,7 @@
 -- The table of a sparse card: what its places make of the sectors, and what a write does to them.
 use Rattle.std.proofs.Common.{◌≡◌, ℕ, zero, suc, ◌<◌, ◌≤◌, Bool, true, false, cond, eqb, List, [], ◌∷◌, map, length, get_or, set, replicate, Some, None, Option, unwrap_or, sym, refl, ap, ◌∙◌, subst, inl, inr, arith}
 use Rattle.std.proofs.lemmas.Bool.{cases_eq, cases_lt, eqb-true, eqb-false}
-use Rattle.std.proofs.lemmas.List.{length-set, length-map, length-replicate, get_or-set_same, get_or-set_other, get_or_past, get_or-replicate, set-set, set_comm, ext_get_or}
+use Rattle.std.proofs.lemmas.List.{length-set, length-replicate, get_or-set_same, get_or-set_other, get_or_past, get_or-replicate, set-set, set_comm}
 use Rattle.std.proofs.Math.ListN.{get_or-map}
 use Rattle.device.specs.Meaning.{zeros}
 use Rattle.kept.specs.Kept.{Places, kept_bytes, given_back}

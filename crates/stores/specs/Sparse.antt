@@ -1,6 +1,6 @@
 -- The sparse card: some sectors in a table of places that the caller lends, the others zeros. In all: xs is the table,
 -- s the number of sectors, n a sector.
-use Rattle.std.specs.Prelude.{◌≡◌, ℕ, ◌<◌, ◌≤◌, Bool, true, false, cond, ◌≢◌, List, [], ◌∷◌, map, length, replicate, Some, None, Ok, Err, Option, Result, ◌==◌, nat_le, slice_index_or, slice_set}
+use Rattle.std.specs.Prelude.{◌≡◌, ℕ, ◌<◌, ◌≤◌, Bool, true, false, cond, ◌≢◌, List, [], ◌∷◌, map, length, replicate, Some, None, Ok, Err, Option, Result, nat_le, slice_index_or, slice_set}
 use Rattle.std.specs.Coded.{Coded-set, coded_ℕ, Unit-prop, le_prop}
 use Rattle.device.specs.Faults.{Faults, fault}
 use Rattle.device.specs.Meaning.{Meaning, Sectors, Bytes, zeros, well, failed}

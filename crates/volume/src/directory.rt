@@ -34,8 +34,7 @@ pub(crate) fn entry_in(sector: &[u8; 512], slot: u16) -> Entry
     ensures { result ≡ entry_in (part sector.now (place_of slot).offset 32) }
 {
     let at = entry_place(slot).offset;
-    let mut bytes = [0u8; 32];
-    bytes.copy_from_slice(&sector[at..at + 32]);
+    let bytes = sector[at..at + 32].try_into().unwrap();
     Entry::decode(&bytes)
 }
 

@@ -1,7 +1,6 @@
 use Rattle.std.proofs.Common.{◌≡◌, ℕ, ◌<◌, None, subst, rules}
 use Rattle.device.proofs.Checks.{passed}
 use Rattle.kept.specs.Kept.{kept_bytes}
-use Rattle.caching.specs.Keeping.{Kept}
 use Rattle.caching.proofs.Kept.{kept_found, not_found, kept_read, true_after_reads}
 use Rattle.caching.proofs.cache.CacheSectorDevice.read.Goals as goal
 
