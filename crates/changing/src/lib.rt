@@ -1,4 +1,5 @@
-// The calls of a card that change it, over any device: each as its plan says.
+// The calls of a card that change it, over any device: each as its plan says. Device and memory stay two parameters, since
+// a card that owns both lends them one by one.
 #![tactic(auto)]
 
 // Jobs by their names.

@@ -29,7 +29,8 @@ impl Label {
         sector
     }
 
-    // The label in a master sector on a device of so many sectors, or the offset of the first field at fault.
+    // The label in a master sector on a device of so many sectors, or the offset of the first field at fault, which is
+    // a place and no kind of error.
     pub fn read(sector: &[u8; 512], size: u32) -> Result<Label, u16>
         ensures { result ≡ read_label size sector.now }
     {

@@ -51,6 +51,7 @@ impl<'a, R: Drop> RowTable<'a, R> {
 }
 
 // Rows offered one by one to an empty table fill the caller's slice from its start, as far as there is room.
+// It does nothing, and so answers 0, as every function here that only names a law.
 pub fn first_rows_are_kept<R: Drop>() -> u8
     ensures { FirstKept R }
 {
