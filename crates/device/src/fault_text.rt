@@ -3,6 +3,7 @@ ghost use Rattle.std.specs.Prelude.{Some};
 ghost use Rattle.device.specs.FaultText.{fault_text};
 
 use crate::faults::Fault;
+use std::error::Error;
 use std::fmt;
 
 impl fmt::Display for Fault {
@@ -19,3 +20,5 @@ impl fmt::Display for Fault {
         )
     }
 }
+
+impl Error for Fault {}

@@ -21,7 +21,7 @@ pub enum EntryState {
 
 impl Entry {
     // What this entry says as that of a slot on a card with this layout.
-    #[tactic(auto, unfolding(crate::specs::State::state_of))]
+    #[tactic(auto, unfolding(crate::specs::State::state_of, crate::specs::State::state_by))]
     pub fn state(&self, layout: &Layout, slot: u16) -> EntryState
         ensures { result ≡ state_of layout.now slot self.now }
     {
@@ -35,7 +35,7 @@ impl Entry {
     }
 
     // Whether slot, name, slot field, first sector and size in sectors are those of a file.
-    #[tactic(auto, unfolding(crate::specs::State::live_entry))]
+    #[tactic(auto, unfolding(crate::specs::State::live_entry, crate::specs::State::lawful_fields))]
     fn is_live(&self, layout: &Layout, slot: u16) -> bool
         ensures { result ≡ live_entry layout.now slot self.now }
     {

@@ -3,6 +3,7 @@ ghost use Rattle.std.specs.Prelude.{Some};
 ghost use Rattle.refusals.specs.RefusalText.{refusal_text, reason_text};
 
 use crate::Refusal;
+use std::error::Error;
 use std::fmt;
 
 impl fmt::Display for Refusal {
@@ -12,6 +13,8 @@ impl fmt::Display for Refusal {
         write!(f, "refused {}: {}", self.number(), Reason(self))
     }
 }
+
+impl Error for Refusal {}
 
 // What stood in the way, without the number.
 #[derive(Clone, Copy)]
