@@ -168,11 +168,6 @@ pub read_cut : {t : Faults} {c : Layout} {m m' : Meaning} {n : ℕ} {ws : List S
 read_cut {ws = ws} r = read_cut_at at_first ws (inl refl) r
 
 -- carried back to where nothing had changed yet
-pub read_refused_from : {t u : Faults} {m m₁ m' : Meaning} {n : ℕ} {f : Fault} → Within u t → m₁ ≡ m → ReadRefused u m₁ m' n f → ReadRefused t m m' n f
-read_refused_from {t = t} {u = u} {m' = m'} {n = n} {f = f} w e r =
-    let r' = subst (λ (x : Meaning). ReadRefused u x m' n f) e r in
-    record { refusable = r'.refusable; names = w Read n f r'.names; leaves = r'.leaves }
-
 pub performed_from : {c : Layout} {m m₁ m' : Meaning} {ws : List SlotWrite} → m₁ ≡ m → Performed c m₁ m' ws → Performed c m m' ws
 performed_from {c = c} {m' = m'} {ws = ws} e p = subst (λ (x : Meaning). Performed c x m' ws) e p
 
@@ -184,7 +179,9 @@ cut_from {t = t} {c = c} {rs = rs} {m' = m'} {ws = ws} {f = f} e p = subst (λ (
 -- an entry that is written after some writes, and one among the first
 pub enters_later : (ws vs : List SlotWrite) (j : ℕ) → Enters vs j → Enters (ws ++ vs) (length ws + j)
 enters_later [] vs j h = rw zero-add h
-enters_later (w ∷ ws) vs j h = let e : suc (length ws + j) ≡ suc (length ws) + j = omega arith in subst (Enters (w ∷ (ws ++ vs))) e (enters_later ws vs j h)
+enters_later (w ∷ ws) vs j h =
+    let e : suc (length ws + j) ≡ suc (length ws) + j = omega arith in
+    subst (Enters (w ∷ (ws ++ vs))) e (enters_later ws vs j h)
 
 pub enters_first : (ws vs : List SlotWrite) (j : ℕ) → Enters ws j → Enters (ws ++ vs) j
 enters_first [] vs j h = absurd h
