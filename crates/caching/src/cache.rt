@@ -3,7 +3,7 @@
 ghost use Rattle.std.specs.Prelude.{◌≡◌, ℕ, List, length, Ok};
 ghost use Rattle.caching.specs.Keeping.{Kept, NothingKept, KeptToo, Followed, TrueOf, true_of-prop};
 
-use device::{Act, Fault, Geometry, SectorDevice, check_transfer, zero_sector};
+use device::{Act, Fault, Geometry, SectorDevice, check_transfer};
 use kept::{KeptSector, find, give_back};
 use layers::passed_on;
 
@@ -24,7 +24,8 @@ impl Entries {
         }
     }
 
-    // Keeps sector n, in place of what was kept of it. It takes a slice, as a device's calls do.
+    // Keeps sector n, in place of what was kept of it. The bytes are a slice of 512, as a
+    // device's calls have them.
     fn keep(&mut self, n: u32, bytes: &[u8])
         requires { length bytes.now ≡ 512 }
         ensures { KeptToo self.old.places self.new.places n bytes.now }
@@ -38,7 +39,7 @@ impl Entries {
         self.next = at + 1;
     }
 
-    // Keeps sector n after an accepted transfer, and nothing at all after a refused one.
+    // Keeps sector n after an accepted transfer, and nothing at all after a refused one; the bytes are a slice, as in `keep`.
     fn follow(&mut self, n: u32, bytes: &[u8], answer: &Result<(), Fault>)
         requires { length bytes.now ≡ 512 }
         ensures { Followed self.old.places self.new.places n bytes.now answer.now }
@@ -50,12 +51,12 @@ impl Entries {
     }
 }
 
-// A device with some of its sectors in memory. That they are what lies beneath is a ghost field.
+// A device with some of its sectors in memory. A ghost field says that these are what lies beneath.
 #[derive(Drop)]
 pub struct Cache<D: SectorDevice> {
     beneath: D,
     entries: Entries,
-    ghost true_of: { TrueOf (D.SectorDevice.meaning beneath) entries.places } by { true_of-prop (D.SectorDevice.meaning beneath) entries.places },
+    pub ghost true_of: { TrueOf (D.SectorDevice.meaning beneath) entries.places } by { true_of-prop (D.SectorDevice.meaning beneath) entries.places },
 }
 
 impl<D: SectorDevice> Cache<D> {

@@ -1,5 +1,5 @@
-// The calls of a card that change it, over any device: each as its plan says. Device and memory stay two parameters, since
-// a card that owns both lends them one by one.
+// The calls of a card that change it, over any device: each as its plan says. Device and memory stay two parameters, as
+// device and layout do in volume, whose functions take the one without the other.
 #![tactic(auto)]
 
 // Jobs by their names.

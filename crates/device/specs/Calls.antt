@@ -6,7 +6,7 @@ use Rattle.device.specs.Transfers.{Reads, Writes}
 use Rattle.device.specs.declared.faults.Fault.{Fault}
 use Rattle.device.specs.declared.sector_device.SectorDevice.{Ghosts}
 
--- it names no faults that it did not name before: told of before and after, so no type can carry it
+-- it names no faults that it did not name before: no type can say this, since it is of two moments
 abbrev pub KeepsFaults : {D : Type 0} → Ghosts D → (d d' : D) → Type 0
 KeepsFaults g d d' = Within (g.faults d') (g.faults d)
 

@@ -13,6 +13,7 @@ pub enum Cause {
     Device = 3,
 }
 
+// `number` of causes and of acts is the same line: a trait, or a `From`, would need it for each of them too.
 impl Cause {
     pub fn number(self) -> u8
         ensures { result ≡ cause_number self }
@@ -28,7 +29,6 @@ pub enum Act {
     Write = 2,
 }
 
-// Each kind has its own `number`: a trait, or a `From`, would need the same line for each.
 impl Act {
     pub fn number(self) -> u8
         ensures { result ≡ act_number self }

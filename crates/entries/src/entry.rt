@@ -21,7 +21,7 @@ pub struct Entry {
 }
 
 impl Entry {
-    // By name both ways, as `u16::from_le_bytes` and `to_le_bytes` are: 32 bytes may be many other things.
+    // By name both ways and not by `From`: nothing in 32 bytes says that they are an entry.
     #[tactic(auto, using(crate::proofs::Entries::bytes_back), unfolding(crate::specs::Entry::entry_in))]
     pub fn decode(bytes: &[u8; 32]) -> Entry
         ensures value { result ≡ entry_in bytes.now }

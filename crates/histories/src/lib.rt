@@ -4,7 +4,7 @@
 ghost use Rattle.histories.specs.Theorem.{HistoriesUpheld};
 
 // From a card whose format counted, every history upholds what the model says.
-// It does nothing, and so answers 0, as every function here that only names a law.
+// By the repository's rule a function that only names a law answers 0.
 pub fn histories_upheld() -> u8
     ensures { HistoriesUpheld }
 {

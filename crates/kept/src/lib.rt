@@ -12,7 +12,8 @@ pub struct KeptSector {
     pub bytes: [u8; 512],
 }
 
-// The bytes of sector n, as the first place that keeps it has them.
+// The bytes of sector n, as the first place that keeps it has them. A chain of iterators would have to leave out the free places
+// first, and is no shorter.
 pub fn find(places: &[Option<KeptSector>], n: u32) -> Option<&[u8; 512]>
     ensures { option_copied result ≡ kept_bytes places.now n }
 {

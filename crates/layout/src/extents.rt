@@ -10,7 +10,7 @@ pub fn job_size(bytes: usize) -> Option<u16>
 }
 
 // The sectors that so many bytes take, and the bytes in the last of them: 512 in a full one, 0 where there is none.
-// A pair without names, since each caller takes it apart at once.
+// By the project's rule one function answers the pair.
 pub fn extent(bytes: u16) -> (u8, u16)
     ensures value { result ≡ extent_of bytes }
     ensures told { Extent bytes result.0 result.1 }

@@ -2,7 +2,7 @@
 ghost use Rattle.layout.specs.Figures.{FiguresHold};
 
 // Every worked figure of docs/FORMAT.md is right.
-// It does nothing, and so answers 0, as every function here that only names a law.
+// By the repository's rule a function that only names a law answers 0.
 pub fn figures_hold() -> u8
     ensures { FiguresHold }
 {

@@ -18,7 +18,8 @@ pub struct Label {
 }
 
 impl Label {
-    // The master sector of a card with this label.
+    // The master sector of a card with this label. By name and not by `From`, as `Label::read` is, since it promises the way
+    // back too.
     pub fn to_sector(&self) -> [u8; 512]
         ensures value { result ≡ label_sector self.now }
         ensures back { (n : ℕ) → LawfulLabel self.now n → read_label n result ≡ Ok self.now }
@@ -29,8 +30,8 @@ impl Label {
         sector
     }
 
-    // The label in a master sector on a device of so many sectors, or the offset of the first field at fault, which is
-    // a place and no kind of error.
+    // The label in a master sector on a device of so many sectors, or else the offset of the first field at fault: the
+    // number is a place in the sector, and no code for a reason.
     pub fn read(sector: &[u8; 512], size: u32) -> Result<Label, u16>
         ensures { result ≡ read_label size sector.now }
     {
@@ -85,7 +86,7 @@ fn sign(sector: &mut [u8; 512])
     sector[0x1FE..0x200].copy_from_slice(b"80");
 }
 
-// The offset of the first field of a master sector that does not hold what it must.
+// The offset of the first field of a master sector that does not hold what it must, if there is one.
 fn bad_field(sector: &[u8; 512], size: u32) -> Option<u16>
     ensures { result ≡ bad_field size sector.now }
 {
@@ -95,7 +96,8 @@ fn bad_field(sector: &[u8; 512], size: u32) -> Option<u16>
         .map(|(offset, _)| *offset)
 }
 
-// The fields that are checked, in order: the offset of each, and whether it holds what it must.
+// The fields that are checked, in order: the offset of each, and whether it holds what it must. Pairs, since a struct of them
+// would have no other use.
 fn checks(sector: &[u8; 512], size: u32) -> [(u16, bool); 7]
     ensures { map (λ f. field f.0 f.1) result ≡ checks_of size (double_at sector.now 15) sector.now }
 {

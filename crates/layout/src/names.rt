@@ -33,7 +33,7 @@ impl Name {
     }
 }
 
-// Whether a character may stand in a name. By the project's rule a match with the ranges as its cases.
+// Whether a character may stand in a name. By the project's rule the ranges are cases of a match.
 fn is_name_char(c: char) -> bool
     ensures { result ≡ name_char c }
 {
@@ -43,19 +43,22 @@ fn is_name_char(c: char) -> bool
     }
 }
 
-// By the project's rule a loop tests each byte.
+// By the project's rule a loop over the bytes tests each.
 fn is_lawful(name: &[u8]) -> bool
     ensures { result ≡ lawful_name name.now }
 {
+    if name.len() > 16 {
+        return false;
+    }
     for b in name {
         if !is_name_char(char::from(*b)) {
             return false;
         }
     }
-    name.len() <= 16 && name.iter().any(|b| *b != b' ')
+    name.iter().any(|b| *b != b' ')
 }
 
-// At most sixteen bytes, with spaces behind them.
+// At most sixteen bytes, with spaces behind them: no conversion of the library pads.
 #[tactic(auto, unfolding(crate::specs::Names::padded))]
 fn pad(name: &[u8]) -> [u8; 16]
     requires { length name.now ≤ 16 }

@@ -10,9 +10,8 @@ pub fn word_at(bytes: &[u8], at: usize) -> u16
     u16::from_le_bytes([bytes[at], bytes[at + 1]])
 }
 
-// Double words go by halves, in no byte order that `u32` knows; a trait over both widths would repeat these bodies.
-
-// The double word at a place. Asks: that its four bytes are there.
+// The double word at a place. It goes by halves, in no byte order that `u32` knows: a trait over both widths would repeat these
+// bodies. Asks: that its four bytes are there.
 pub fn double_at(bytes: &[u8], at: usize) -> u32
     requires { at + 4 ≤ length bytes.now }
     ensures { result ≡ double_at bytes.now at }

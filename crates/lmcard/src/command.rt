@@ -2,6 +2,7 @@
 ghost use Rattle.std.specs.Prelude.{◌≤◌, IfOk};
 
 use crate::failure::Failure;
+use stores::is_sparse_size;
 
 #[derive(Clone, Copy)]
 pub(crate) enum Command<'a> {
@@ -19,9 +20,7 @@ pub(crate) enum Command<'a> {
 
 impl<'a> Command<'a> {
     pub(crate) fn parse(words: &'a [String]) -> Result<Command<'a>, Failure> {
-        let Some((verb, rest)) = words.split_first() else {
-            return Err(Failure::Usage);
-        };
+        let (verb, rest) = words.split_first().ok_or(Failure::Usage)?;
         match (verb.as_str(), rest) {
             ("new", [image, sectors, name, id]) => Ok(Command::New {
                 image: image.as_str(),
@@ -42,8 +41,8 @@ impl<'a> Command<'a> {
 fn sectors_in(word: &str) -> Result<u32, Failure>
     ensures { IfOk result (λ n. (1 ≤ n) × (n ≤ 268435456)) }
 {
-    match word.parse::<u32>() {
-        Ok(n) if (1..=268_435_456).contains(&n) => Ok(n),
-        _ => Err(Failure::Sectors),
-    }
+    word.parse::<u32>()
+        .ok()
+        .filter(|n| is_sparse_size(*n))
+        .ok_or(Failure::Sectors)
 }

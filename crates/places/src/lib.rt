@@ -5,7 +5,7 @@ ghost use Rattle.places.specs.Places.{LayoutsSound, WritesRefine};
 
 // Every layout is sound; and writes of entries and of block sectors do to the slots of a card what they say, and
 // nothing else.
-// It does nothing, and so answers 0, as every function here that only names a law.
+// By the repository's rule a function that only names a law answers 0.
 pub fn writes_refine() -> u8
     ensures layouts { LayoutsSound }
     ensures writes { WritesRefine }

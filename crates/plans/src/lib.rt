@@ -4,7 +4,7 @@
 ghost use Rattle.plans.specs.Cases.{RefusesAsListed};
 
 // Every call refuses with a number exactly if that case is the first of its listed cases that holds.
-// It does nothing, and so answers 0, as every function here that only names a law.
+// By the repository's rule a function that only names a law answers 0.
 pub fn refuses_as_listed() -> u8
     ensures { RefusesAsListed }
 {

@@ -22,6 +22,7 @@ pub enum FindingKind {
     FileType = 8,
 }
 
+// A line, as the numbers of faults have: this crate stands on no other.
 impl FindingKind {
     pub fn number(self) -> u8
         ensures { result ≡ finding_number self }

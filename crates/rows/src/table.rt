@@ -2,8 +2,8 @@
 ghost use Rattle.std.specs.Prelude.{◌≡◌, slice_set};
 ghost use Rattle.rows.specs.Rows.{one_more, FirstKept};
 
-// The slice is the caller's, and the count goes on past its end. Each call keeps the lender, so that the caller knows what
-// its slice holds in the end.
+// The slice is the caller's, and the count goes on past its end. Each call says that the slice is still the one that was lent,
+// so that the caller knows what it holds in the end.
 #[derive(Drop)]
 pub struct RowTable<'a, R> {
     rows: &'a mut [R],
@@ -51,7 +51,7 @@ impl<'a, R: Drop> RowTable<'a, R> {
 }
 
 // Rows offered one by one to an empty table fill the caller's slice from its start, as far as there is room.
-// It does nothing, and so answers 0, as every function here that only names a law.
+// By the repository's rule a function that only names a law answers 0.
 pub fn first_rows_are_kept<R: Drop>() -> u8
     ensures { FirstKept R }
 {

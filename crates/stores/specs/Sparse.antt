@@ -48,7 +48,7 @@ abbrev pub PlaceSound : ℕ → Option KeptSector → Type 0
 PlaceSound s (Some x) = KeptSound s x
 PlaceSound s None = Unit {0}
 
--- the size is not above the lawful ones, each place is sound, and no sector has two places
+-- the size is not above the lawful ones, each kept sector is as it should be, and no sector has two places
 pub record SparseSound (xs : Places) (s : ℕ) : Type 0 where
   pub few : s ≤ 268435456
   pub each : (i : ℕ) → PlaceSound s (slice_index_or xs i None)

@@ -55,6 +55,7 @@ impl<'a> ImageDevice<'a> {
         bytes
     }
 
+    // Sector n into a buffer of 512 bytes, which is a slice, as a device's calls have it.
     fn copy_sector(&self, n: usize, buf: &mut [u8])
         requires { (length buf.old ≡ 512) × (512 * n + 512 ≤ length self.now.bytes.now) }
         ensures { buf.new ≡ take 512 (drop (512 * n) self.now.bytes.now) }

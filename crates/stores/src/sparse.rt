@@ -8,15 +8,15 @@ use device::{Act, Cause, Fault, Geometry, SectorDevice, check_transfer, zero_sec
 use kept::{KeptSector, find, give_back};
 
 // The table is the caller's, since there is no heap for a map: as many sectors that are not all zero can be kept as it
-// has places. What holds of it is a ghost field, so that no call asks for it.
+// has places. What every such card keeps of its table stands in a ghost field, so no call asks for it.
 #[derive(Drop)]
 pub struct SparseDevice<'a> {
     places: &'a mut [Option<KeptSector>],
     size: u32,
     geometry: Geometry,
-    // a flag, since no value goes with it
+    // whether a write found no place: from then on all is refused, and there is no value to go with that
     failed: bool,
-    ghost sound: { SparseSound places.now size } by { sparse_sound-prop places.now size },
+    pub ghost sound: { SparseSound places.now size } by { sparse_sound-prop places.now size },
 }
 
 // Whether a sparse card may have so many sectors: 1 to 268,435,456.
@@ -37,8 +37,7 @@ fn count_of(sectors: u32) -> u32
 fn is_zero(buf: &[u8]) -> bool
     ensures { Decides result (buf.now ≡ zeros 512) }
 {
-    let zero = zero_sector();
-    buf == zero.as_slice()
+    buf == zero_sector().as_slice()
 }
 
 impl<'a> SparseDevice<'a> {
@@ -71,7 +70,7 @@ impl<'a> SparseDevice<'a> {
         places
     }
 
-    // Sector n into a buffer of 512 bytes.
+    // Sector n into a buffer of 512 bytes, which is a slice, as a device's calls have it.
     fn copy_sector(&self, n: u32, buf: &mut [u8])
         requires { (length buf.old ≡ 512) × (n < self.now.size) }
         ensures { buf.new ≡ slice_index_or (sparse_sectors self.now.size self.now.places.now) n [] }

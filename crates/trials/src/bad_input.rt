@@ -16,10 +16,9 @@ mod tests {
     // Whether a small card is formatted, or the number of the refusal.
     fn formatted(bytes: &mut [u8], name: &[u8], id: &[u8]) -> Result<(), u8> {
         let mut card = ImageDevice::new(bytes, SHAPE);
-        match format(&mut card, name, id) {
-            Ok(_) => Ok(()),
-            Err(refusal) => Err(refusal.number()),
-        }
+        format(&mut card, name, id)
+            .map(|_| ())
+            .map_err(|refusal| refusal.number())
     }
 
     // The offset at which a label is refused, none where it is read.

@@ -12,14 +12,14 @@ use device::{Fault, SectorDevice, zero_sector};
 use layout::Layout;
 use runs::write_zeros;
 
-// A sector of a slot's block. The layout comes by value, so that the sum is known to fit.
+// A sector of a slot's block. The layout comes by value: behind a reference its numbers are not known to fit their types.
 fn block_sector(layout: Layout, slot: u16, i: u8) -> u32
     ensures { result ≡ block_of layout slot + i }
 {
     layout.block(slot) + u32::from(i)
 }
 
-// At most a sector's bytes, zeros behind them.
+// At most a sector's bytes, zeros behind them: no conversion of the library pads.
 fn padded_sector(part: &[u8]) -> [u8; 512]
     requires { length part.now ≤ 512 }
     ensures { result ≡ chunk part.now 0 }

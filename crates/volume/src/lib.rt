@@ -1,5 +1,6 @@
 // The calls' inner steps over any device.
-// Device and layout stay two parameters: a struct of both needs longer clauses, and one more on whose device it is.
+// Device and layout stay two parameters: in a struct of both each clause would name the device by a longer path, and one more
+// would have to say that the device is still the caller's.
 #![tactic(auto)]
 
 // The open job as the program keeps it.

@@ -13,7 +13,13 @@ pub(crate) fn run(rt: &HostRuntime) -> Result<(), Failure> {
     )?;
     let mut bytes = vec![in rt.alloc(); 0u8; 512 * 130]?;
     let image = ImageDevice::new(&mut bytes, image_geometry(130));
-    let mut pile = Window::new(Cache::new(Counting::new(image)), Span { first: 100, count: 8 });
+    let mut pile = Window::new(
+        Cache::new(Counting::new(image)),
+        Span {
+            first: 100,
+            count: 8,
+        },
+    );
     transfers::write(rt, &mut pile, 3, 0x5A)?;
     transfers::read(rt, &mut pile, 3)?;
     transfers::read(rt, &mut pile, 7)?;

@@ -16,7 +16,13 @@ pub(crate) fn run(rt: &HostRuntime) -> Result<(), Failure> {
     transfers::write(rt, &mut card, 107, 0x22)?;
     transfers::write(rt, &mut card, 107, 0x00)?;
     println!(rt; "through a window from sector 100 on, over a cache:")?;
-    let mut pile = Window::new(Cache::new(card), Span { first: 100, count: 8 });
+    let mut pile = Window::new(
+        Cache::new(card),
+        Span {
+            first: 100,
+            count: 8,
+        },
+    );
     transfers::write(rt, &mut pile, 2, 0x33)?;
     transfers::write(rt, &mut pile, 5, 0x44)?;
     transfers::read(rt, &mut pile, 2)?;

@@ -6,8 +6,8 @@ use Rattle.std.proofs.lemmas.Iterator.Search.{any_from_yields_List}
 use Rattle.layout.specs.Names.{name_chars, some_shown}
 use Rattle.layout.proofs.names.is_lawful.Goals as goal
 
-pub returns-then-name-le16 : goal.returns-then-name-le16
-returns-then-name-le16 c =
+pub returns : goal.returns
+returns c =
     let s = c.args.name.now in
     let h : length s ≤ c.loop-b.b-index = omega arith in
     let chars : name_chars s ≡ true = c.loop-b.invariant ∙ at_drop_all name_chars s c.loop-b.b-index h in
