@@ -51,12 +51,13 @@ impl Entries {
     }
 }
 
-// A device with some of its sectors in memory. A ghost field says that these are what lies beneath.
+// A device with some of its sectors in memory. It is sound, as its ghost field says: these are what lies
+// beneath.
 #[derive(Drop)]
 pub struct Cache<D: SectorDevice> {
     beneath: D,
     entries: Entries,
-    pub ghost true_of: { TrueOf (D.SectorDevice.meaning beneath) entries.places } by { true_of-prop (D.SectorDevice.meaning beneath) entries.places },
+    pub ghost sound: { TrueOf (D.SectorDevice.meaning beneath) entries.places } by { true_of-prop (D.SectorDevice.meaning beneath) entries.places },
 }
 
 impl<D: SectorDevice> Cache<D> {

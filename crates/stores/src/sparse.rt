@@ -8,7 +8,7 @@ use device::{Act, Cause, Fault, Geometry, SectorDevice, check_transfer, zero_sec
 use kept::{KeptSector, find, give_back};
 
 // The table is the caller's, since there is no heap for a map: as many sectors that are not all zero can be kept as it
-// has places. What every such card keeps of its table stands in a ghost field, so no call asks for it.
+// has places. Every card is sound, as its ghost field says, so no call asks for it.
 #[derive(Drop)]
 pub struct SparseDevice<'a> {
     places: &'a mut [Option<KeptSector>],

@@ -7,7 +7,7 @@ use Rattle.caching.proofs.cache.CacheSectorDevice.read.Goals as goal
 pub returns-in-Some-clause-reads : goal.returns-in-Some-clause-reads
 returns-in-Some-clause-reads g c =
     let xs = c.args.self.now.entries.places in
-    kept_read xs c.args.self.now.true_of (kept_found xs c.args.n _ (search rules) (search rules)) (passed c.in_ok-check_transfer.ensures).0
+    kept_read xs c.args.self.now.sound (kept_found xs c.args.n _ (search rules) (search rules)) (passed c.in_ok-check_transfer.ensures).0
 
 pub returns-in-Some-clause-keeps : goal.returns-in-Some-clause-keeps
 returns-in-Some-clause-keeps g c e = kept_found c.args.self.now.entries.places c.args.n _ (search rules) (search rules)
@@ -17,7 +17,7 @@ invariant_of-self g c =
     let p = passed c.in_ok-check_transfer.ensures in
     let h = subst (λ (j : ℕ). c.args.n < j) c.size.ensures.value p.1 in
     record {
-      true_of = true_after_reads c.read-answer.result _ _ c.args.self.now.true_of c.follow.ensures p.0 h c.read-answer.ensures.reads;
+      sound = true_after_reads c.read-answer.result _ _ c.args.self.now.sound c.follow.ensures p.0 h c.read-answer.ensures.reads;
     }
 
 pub returns-clause-untouched : goal.returns-clause-untouched

@@ -8,5 +8,5 @@ invariant_of-self g c =
     let p = passed c.in_ok-check_transfer.ensures in
     let h = subst (λ (j : ℕ). c.args.n < j) c.size.ensures.value p.1 in
     record {
-      true_of = true_after_writes c.write-answer.result _ _ c.args.self.now.true_of c.follow.ensures p.0 h c.write-answer.ensures.writes;
+      sound = true_after_writes c.write-answer.result _ _ c.args.self.now.sound c.follow.ensures p.0 h c.write-answer.ensures.writes;
     }
