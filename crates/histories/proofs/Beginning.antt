@@ -1,17 +1,16 @@
 -- A new card agrees with the new model: every slot is empty.
-use Rattle.std.proofs.Common.{◌≡◌, ℕ, zero, suc, ◌+◌, ◌-◌, ◌*◌, ◌/◌, ◌%◌, ◌<◌, ◌≤◌, Bool, true, false, cond, ltb, leb, List, [], ◌∷◌, map, length, get_or, take, drop, replicate, Some, None, Ok, Option, Result, sym, refl, ap, ◌∙◌, subst, ap₂, inl, inr, arith}
+use Rattle.std.proofs.Common.{◌≡◌, ℕ, zero, suc, ◌+◌, ◌<◌, ◌≤◌, Bool, true, false, cond, ltb, leb, List, [], ◌∷◌, map, length, get_or, replicate, Some, None, Ok, Option, Result, sym, refl, ap, ◌∙◌, subst, ap₂, inl, inr, arith}
 use Rattle.std.proofs.lemmas.List.{get_or_past, get_or-replicate, length-replicate}
 use Rattle.std.proofs.lemmas.Bool.{and_parts, leb-true, cases_lt}
 use Rattle.device.specs.Meaning.{Meaning, Sectors, Lawful, zeros}
-use Rattle.device.proofs.Zeros.{take-zeros, drop-zeros}
-use Rattle.layout.specs.Bytes.{part}
 use Rattle.layout.specs.Label.{Field, field, checks_of, first_failing, bad_field, label_in, answered, read_label}
-use Rattle.layout.specs.Sizes.{layout_of, slots_of}
+use Rattle.layout.specs.Sizes.{layout_of, slots_of, place_of}
 use Rattle.layout.specs.Words.{double_at}
 use Rattle.layout.specs.declared.label.Label.{Label}
 use Rattle.layout.specs.declared.sizes.Layout.{Layout}
 use Rattle.entries.specs.Entry.{entry_in, hold_entry}
 use Rattle.places.specs.Places.{Place, place, places, counted_up, Shaped}
+use Rattle.places.proofs.Directories.{zero_entry}
 use Rattle.places.proofs.Frames.{layouts_sound, dir_below}
 use Rattle.plans.specs.Slots.{Job, empty, live, slot_by, decoded, slots_in}
 use Rattle.plans.proofs.Entries.{emptied_by}
@@ -55,21 +54,16 @@ size_fits n b l size e f =
 
 -- EMPTY SLOTS
 
-zeros_part : (m n o : ℕ) → o + m ≤ n → take m (drop o (zeros n)) ≡ zeros m
-zeros_part m n o h = ap (take m) (drop-zeros o n) ∙ take-zeros m (n - o) (omega arith)
-
 zeros_entry : entry_in (zeros 32) ≡ hold_entry 0
 unfolding entry_in hold_entry zeros
 zeros_entry = refl
 
-new_place : (c : Layout) (s : Sectors) (k : ℕ) → get_or s (1 + k / 16) [] ≡ zeros 512 → decoded (place c s k) ≡ empty
-unfolding place decoded
+new_place : (c : Layout) (s : Sectors) (k : ℕ) → get_or s (place_of k).sector [] ≡ zeros 512 → decoded (place c s k) ≡ empty
+unfolding decoded
 new_place c s k e =
-    let z : part (get_or s (1 + k / 16) []) (32 * (k % 16)) 32 ≡ zeros 32 =
-    ap (λ (x : List ℕ). part x (32 * (k % 16)) 32) e ∙ zeros_part 32 512 (32 * (k % 16)) (omega arith) in
-    ap (λ (x : List ℕ). slot_by k (c.area + 128 * k) (entry_in x) (take 128 (drop (c.area + 128 * k) s))) z
-    ∙ (ap (λ x. slot_by k (c.area + 128 * k) x (take 128 (drop (c.area + 128 * k) s))) zeros_entry
-    ∙ emptied_by k (c.area + 128 * k) (take 128 (drop (c.area + 128 * k) s)))
+    let p = place c s k in
+    ap (λ (x : List ℕ). slot_by p.slot p.first (entry_in x) p.sectors) (zero_entry c s k e)
+    ∙ ap (λ x. slot_by p.slot p.first x p.sectors) zeros_entry ∙ emptied_by p.slot p.first p.sectors
 
 new_slots : (f : ℕ → Place) (i n : ℕ) → ((k : ℕ) → k < i + n → decoded (f k) ≡ empty) → slots_in (counted_up f i n) ≡ map seen (replicate n empty)
 new_slots f i zero h = refl
@@ -94,7 +88,7 @@ new_holds size st n =
       shaped = new_shaped size st.device n.lawful fits;
       label = n.label;
       agrees = subst (λ q. Agrees (replicate c.slots empty) None (counted_up (place c s) 0 c.slots) q.job) (sym n.memory) record {
-        same = new_slots (place c s) 0 c.slots (λ k h. new_place c s k (n.directory (1 + k / 16) (omega arith) (dir_below c (layouts_sound size) k (omega arith))));
+        same = new_slots (place c s) 0 c.slots (λ k h. new_place c s k (n.directory (place_of k).sector (omega arith) (dir_below c (layouts_sound size) k (omega arith))));
         unique = λ i k a b p q e. absurd (none_live c.slots i a p);
         open' = tt;
       };

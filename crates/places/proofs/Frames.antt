@@ -5,12 +5,14 @@ use Rattle.device.proofs.ByteLists.{take-bytes, drop-bytes, append-bytes}
 use Rattle.std.proofs.lemmas.List.{get_or-set_same, get_or-set_other, length-set, drop-set-lt, drop-set-add, take-set-le, length-take-le, length-drop, get_or-take, get_or-drop}
 use Rattle.std.proofs.lemmas.Bool.{cases_eq, cases_lt}
 use Rattle.device.specs.Meaning.{Sectors, Bytes}
+use Rattle.layout.specs.Sizes.{place_of}
 use Rattle.layout.specs.declared.sizes.Layout.{Layout}
 use Rattle.places.specs.SlotWrites.{SlotAct, SlotWrite, enter, fill, spliced, written, all_written}
 use Rattle.places.specs.Places.{Sound, Shaped, Place, place, places, no_place, acted, moved, all_moved, FitsAct, LayoutsSound, WritesRefine}
 use Rattle.places.proofs.Lists.{spliced_here, spliced_below, spliced_above, length-spliced, counted_set, length-counted, get_or-counted}
 
-pub dir_below : (c : Layout) → Sound c → (k : ℕ) → k < c.slots → 1 + k / 16 < c.area
+-- the entry of a slot lies in the directory
+pub dir_below : (c : Layout) → Sound c → (k : ℕ) → k < c.slots → (place_of k).sector < c.area
 dir_below c v k h = omega arith
 
 pub dir_in : (c : Layout) → Sound c → (s : Sectors) → Shaped c s → (k : ℕ) → k < c.slots → 1 + k / 16 < length s

@@ -6,11 +6,15 @@ use Rattle.layout.specs.Sizes.{layout_of, place_of, block_of}
 use Rattle.layout.specs.declared.sizes.Layout.{Layout}
 use Rattle.places.specs.SlotWrites.{SlotAct, SlotWrite, enter, fill, all_written}
 
+-- the entries in the sectors of the directory: those of the slots, and some past them
+abbrev pub entries_listed : Layout → ℕ
+entries_listed c = 16 * (c.area - 1)
+
 -- a layout whose slots have their entries before the data area and their blocks on the card; one without slots asks
 -- for no room
 pub record Sound (c : Layout) : Type 0 where
   pub directory : 1 ≤ c.area
-  pub listed : c.slots ≤ 16 * (c.area - 1)
+  pub listed : c.slots ≤ entries_listed c
   pub room : 0 < c.slots → c.area + 128 * c.slots ≤ c.sectors
 
 -- at least as many sectors as the card has, each of 512 bytes

@@ -1,12 +1,12 @@
 -- The rows that list and check give.
-use Rattle.std.specs.Prelude.{ℕ, suc, ◌-◌, ◌*◌, Bool, cond, not, ◌||◌, List, [], ◌∷◌, length, take, is_some, Some, None, Option, ◌==◌, nat_lt, slice_index}
+use Rattle.std.specs.Prelude.{ℕ, suc, Bool, cond, not, ◌||◌, List, [], ◌∷◌, length, take, is_some, Some, None, Option, ◌==◌, nat_lt, slice_index}
 use Rattle.device.specs.Meaning.{Sectors}
 use Rattle.layout.specs.Extents.{extent_of}
 use Rattle.layout.specs.Names.{lawful_name}
 use Rattle.layout.specs.declared.sizes.Layout.{Layout}
 use Rattle.entries.specs.Entry.{entry_in}
 use Rattle.entries.specs.declared.entry.Entry.{Entry}
-use Rattle.places.specs.Places.{place, places, counted_up}
+use Rattle.places.specs.Places.{place, places, counted_up, entries_listed}
 use Rattle.rows.specs.declared.finding.Finding.{Finding}
 use Rattle.rows.specs.declared.finding.FindingKind.{FindingKind}
 use Rattle.rows.specs.declared.finding.FindingKind.TheVariants.{Name, Slot as SlotField, FirstSector, Sectors as SectorCount, NameTaken, NoBlock, Held, FileType}
@@ -69,4 +69,4 @@ finding_at c s k =
 
 -- all entries of the directory sectors are looked at
 unfoldable pub findings : Layout → Sectors → List Finding
-findings c s = kept (counted_up (finding_at c s) 0 (16 * (c.area - 1)))
+findings c s = kept (counted_up (finding_at c s) 0 (entries_listed c))

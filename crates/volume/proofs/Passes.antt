@@ -1,5 +1,5 @@
 -- Passes over the directory, slot by slot, and what they find.
-use Rattle.std.proofs.Common.{◌≡◌, ℕ, suc, ◌+◌, ◌/◌, ◌%◌, ◌<◌, ◌≤◌, Bool, true, false, cond, List, [], ◌∷◌, ◌++◌, length, get_or, take, drop, Some, None, Option, sym, refl, ap, ◌∙◌, subst, ap₂, inl, inr, arith}
+use Rattle.std.proofs.Common.{◌≡◌, ℕ, suc, ◌+◌, ◌<◌, ◌≤◌, Bool, true, false, cond, List, [], ◌∷◌, ◌++◌, length, get_or, take, drop, Some, None, Option, sym, refl, ap, ◌∙◌, subst, ap₂, inl, inr, arith}
 use Rattle.std.proofs.lemmas.List.{length-map, get_or-map, take_more, take_all, length-take-le, take-append-drop}
 use Rattle.std.proofs.lemmas.Bool.{cases_eq}
 use Rattle.std.specs.Option.{option_or}
@@ -13,6 +13,7 @@ use Rattle.entries.specs.State.{state_of}
 use Rattle.entries.specs.declared.entry.Entry.{Entry}
 use Rattle.entries.specs.declared.state.EntryState.{EntryState}
 use Rattle.places.specs.Places.{Place, places, no_place}
+use Rattle.places.proofs.Directories.{inner, next_same}
 use Rattle.places.proofs.Frames.{length-places}
 use Rattle.plans.specs.Plans.{place_in, entry_of}
 use Rattle.plans.specs.Slots.{Slot, empty, job_in, as_slot, decoded, slots_in, one_up, lowest}
@@ -26,29 +27,23 @@ use Rattle.volume.proofs.Glue.{room_same, entry_at, decoded_as}
 pub record Looked (m m₁ : Meaning) (k : ℕ) (b : List ℕ) : Type 0 where
   pub same : m₁ ≡ m
   pub accepted : 0 < k → MayAccept m.condition
-  pub holds : (k % 16 ≡ 0 → ⊥) → b ≡ directory_sector m.sectors k
+  pub holds : ((place_of k).offset ≡ 0 → ⊥) → b ≡ directory_sector m.sectors k
 
 pub looked_none : (m : Meaning) (b : List ℕ) → Looked m m 0 b
 looked_none m b = record { same = refl; accepted = λ h. absurd (omega arith); holds = λ h. absurd (h refl) }
-
-inner : (k : ℕ) → (k % 16 ≡ 0 → ⊥) → 0 < k
-inner k h = elim (cases_eq k 0) [ inl e ↦ absurd (h (ap (λ (n : ℕ). n % 16) e)) | inr n ↦ omega arith ]
-
-next_same : (k : ℕ) → ((k + 1) % 16 ≡ 0 → ⊥) → 1 + k / 16 ≡ 1 + (k + 1) / 16
-next_same k h = elim (cases_eq ((k + 1) % 16) 0) [ inl e ↦ absurd (h e) | inr n ↦ omega arith ]
 
 -- the buffer turned to slot k holds its directory sector
 pub turned_to : {m m₁ m₂ : Meaning} {k : ℕ} {b b' : List ℕ} → Looked m m₁ k b → Turned m₁ m₂ k b b' → b' ≡ directory_sector m.sectors k
 turned_to {m₂ = m₂} {k = k} {b = b} {b' = b'} p q =
     let q' = subst (λ (z : Meaning). Turned z m₂ k b b') p.same q in
-    elim (cases_eq (k % 16) 0) [ inl e ↦ (q'.first_there e).1 | inr e ↦ q'.further e ∙ p.holds e ]
+    elim (cases_eq (place_of k).offset 0) [ inl e ↦ (q'.first_there e).1 | inr e ↦ q'.further e ∙ p.holds e ]
 
 pub looked_more : {m m₁ m₂ : Meaning} {k : ℕ} {b b' : List ℕ} → Looked m m₁ k b → Turned m₁ m₂ k b b' → Looked m m₂ (k + 1) b'
 looked_more {m = m} {m₂ = m₂} {k = k} {b = b} {b' = b'} p q =
     let q' = subst (λ (z : Meaning). Turned z m₂ k b b') p.same q in
     record {
       same = q'.same;
-      accepted = λ _. elim (cases_eq (k % 16) 0) [ inl e ↦ (q'.first_there e).0 | inr e ↦ p.accepted (inner k e) ];
+      accepted = λ _. elim (cases_eq (place_of k).offset 0) [ inl e ↦ (q'.first_there e).0 | inr e ↦ p.accepted (inner k e) ];
       holds = λ e. turned_to p q ∙ ap (λ (n : ℕ). get_or m.sectors n []) (next_same k e);
     }
 

@@ -1,5 +1,5 @@
 -- Passes over the directory, each of whose sectors is read once, and what they find.
-use Rattle.std.specs.Prelude.{◌≡◌, ℕ, ◌+◌, ◌%◌, ◌<◌, List, [], length, Some, None, Ok, Err, Option, Result, ◌≢◌, slice_index_or}
+use Rattle.std.specs.Prelude.{◌≡◌, ℕ, ◌+◌, ◌<◌, List, [], length, Some, None, Ok, Err, Option, Result, ◌≢◌, slice_index_or}
 use Rattle.device.specs.Calls.{Means}
 use Rattle.device.specs.Faults.{Faults}
 use Rattle.device.specs.Meaning.{Meaning, Sectors, MayAccept, MayRefuse, now_failed}
@@ -45,12 +45,12 @@ pub record ReadRefused (t : Faults) (m m' : Meaning) (n : ℕ) (f : Fault) : Typ
 -- a buffer turned to slot k: its directory sector is read where slot k is the first in it
 pub record Turned (m m' : Meaning) (k : ℕ) (b b' : List ℕ) : Type 0 where
   pub same : m' ≡ m
-  pub first_there : k % 16 ≡ 0 → MayAccept m.condition × (b' ≡ directory_sector m.sectors k)
-  pub further : (k % 16 ≢ 0) → b' ≡ b
+  pub first_there : (place_of k).offset ≡ 0 → MayAccept m.condition × (b' ≡ directory_sector m.sectors k)
+  pub further : (place_of k).offset ≢ 0 → b' ≡ b
 
 abbrev pub Turns : Faults → (m m' : Meaning) (k : ℕ) (b b' : List ℕ) → Result (Unit {0}) Fault → Type 0
 Turns t m m' k b b' (Ok u) = Turned m m' k b b'
-Turns t m m' k b b' (Err f) = (k % 16 ≡ 0) × ReadRefused t m m' (place_of k).sector f
+Turns t m m' k b b' (Err f) = ((place_of k).offset ≡ 0) × ReadRefused t m m' (place_of k).sector f
 
 -- where it was written, a buffer holds the directory sector of slot k as it lies on the device
 abbrev pub Holds : (m' : Meaning) (k : ℕ) (b' : List ℕ) → Result (Unit {0}) Fault → Type 0

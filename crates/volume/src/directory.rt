@@ -23,8 +23,9 @@ pub fn turn_to<D: SectorDevice>(
     ensures keeps { KeepsFaults D.SectorDevice device.old device.new }
     ensures turns { OfEntry D.SectorDevice slot device.old device.new (λ t m m'. Turns t m m' slot sector.old sector.new result) }
 {
-    if slot % 16 == 0 {
-        device.read(entry_place(slot).sector, sector)?;
+    let place = entry_place(slot);
+    if place.offset == 0 {
+        device.read(place.sector, sector)?;
     }
     Ok(())
 }
