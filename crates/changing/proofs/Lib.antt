@@ -1,4 +1,2 @@
-pub mod Endings
 pub mod LabelRead
 pub mod Marking
-pub mod Shutting

@@ -4,8 +4,8 @@ ghost use Rattle.plans.specs.Calls as calls;
 ghost use Rattle.volume.specs.Kept.{kept};
 ghost use Rattle.volume.specs.Outcomes.{Performs, Plain};
 
-use crate::named::find_shut;
 use device::{SectorDevice, zero_sector};
+use naming::find_shut;
 use refusals::Refusal;
 use volume::{Memory, write_entry};
 

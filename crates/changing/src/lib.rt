@@ -2,8 +2,6 @@
 // device and layout do in volume, whose functions take the one without the other.
 #![tactic(auto)]
 
-// Jobs by their names.
-mod named;
 // Mounting a card.
 pub mod mounting;
 // Erasing, renaming and bringing back.

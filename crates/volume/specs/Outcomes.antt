@@ -50,17 +50,23 @@ pub record Untouched (m m' : Meaning) (p q' : Memory) : Type 0 where
   pub device : m' ≡ m
   pub memory : q' ≡ p
 
--- t: the faults that may be named; c: the layout of the mounted card; V: when a value is the answer of a plan; m, q:
--- device and memory before, m', q' after
+-- c: the layout of the mounted card; V: when a value is the answer of a plan; m, q: device and memory before, m', q' after
+abbrev pub AcceptedBy : {A : Type 0} → Layout → (A → Answer → Type 0) → Plan → (v : A) (m m' : Meaning) (q' : Memory) → Type 0
+AcceptedBy c V (tell a p) v m m' q' = V v a × Untouched m m' p q'
+AcceptedBy c V (decline x) v m m' q' = ⊥
+AcceptedBy c V (refuse x) v m m' q' = ⊥
+AcceptedBy c V (go rs ws a p) v m m' q' = Accepted c V rs ws a p v m m' q'
+
+-- t: the faults that may be named
+abbrev pub RefusedBy : Faults → Layout → Plan → (r : Refusal) (m m' : Meaning) (q q' : Memory) → Type 0
+RefusedBy t c (tell a p) r m m' q q' = ⊥
+RefusedBy t c (decline x) r m m' q q' = (r ≡ x) × Untouched m m' q q'
+RefusedBy t c (refuse x) r m m' q q' = Refused c x r m m' q q' ⊎ Broken t c at_first [] r m m' q q'
+RefusedBy t c (go rs ws a p) r m m' q q' = Broken t c rs ws r m m' q q'
+
 abbrev pub Ended : {A : Type 0} → Faults → Layout → (A → Answer → Type 0) → Plan → (m m' : Meaning) (q q' : Memory) → Result A Refusal → Type 0
-Ended t c V (tell a p) m m' q q' (Ok v) = V v a × Untouched m m' p q'
-Ended t c V (tell a p) m m' q q' (Err r) = ⊥
-Ended t c V (decline x) m m' q q' (Ok v) = ⊥
-Ended t c V (decline x) m m' q q' (Err r) = (r ≡ x) × Untouched m m' q q'
-Ended t c V (refuse x) m m' q q' (Ok v) = ⊥
-Ended t c V (refuse x) m m' q q' (Err r) = Refused c x r m m' q q' ⊎ Broken t c at_first [] r m m' q q'
-Ended t c V (go rs ws a p) m m' q q' (Ok v) = Accepted c V rs ws a p v m m' q'
-Ended t c V (go rs ws a p) m m' q q' (Err r) = Broken t c rs ws r m m' q q'
+Ended t c V p m m' q q' (Ok v) = AcceptedBy c V p v m m' q'
+Ended t c V p m m' q q' (Err r) = RefusedBy t c p r m m' q q'
 
 -- a call on a card that keeps q, which is mounted within the sectors of its device
 pub record Performs {A : Type 0} (t : Faults) (V : A → Answer → Type 0) (call : Call) (m m' : Meaning) (q q' : Memory) (r : Result A Refusal) : Type 0 where
