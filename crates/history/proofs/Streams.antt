@@ -15,7 +15,7 @@ use Rattle.plans.specs.Slots.{Job, Slot, empty, live, decoded, job_of}
 use Rattle.plans.specs.Calls.{put, commit}
 use Rattle.plans.specs.Memory.{OpenJob, job_length}
 use Rattle.plans.specs.Plans.{filling, chunk, entering, place_in, entry_of, sectors_full, put_writes, part_writes, commit_writes, after_put, after_commit}
-use Rattle.plans.proofs.Blocks.{ran, ran_append, length-filling, take-filling, chunk_bytes, length-chunk}
+use Rattle.plans.proofs.Blocks.{ran, ran_append, length-filling, take-filling, part_sectors, chunk_bytes, length-chunk}
 use Rattle.plans.proofs.Entries.{resized_fits, entered_fits}
 use Rattle.plans.proofs.Named.{live_same}
 use Rattle.history.specs.Model.{Waiting, Model, with_more, waiting_at, all_counted, committed, counted, done}
@@ -154,12 +154,6 @@ pub put_carried : (c : Layout) (m : Model) (ps : List Place) (o : OpenJob) → L
 put_carried c m ps o v a h x l b = put_at c m.mounted m.slots m.waiting ps o v a h x l b
 
 -- COMMIT
-
--- the part-filled sector is a run of one sector, or of none
-part_sectors : (o : OpenJob) (g : List ℕ) → length g < 512 → part_writes o g ≡ filling o.slot o.full (chunk g) (extent_of (length g)).0
-unfolding filling
-part_sectors o [] h = refl
-part_sectors o (x ∷ xs) h = let e : (length (x ∷ xs) + 511) / 512 ≡ 1 = omega arith in rw (e, add-zero)
 
 -- the slots once a commit is counted
 committed_is : (xs : List Slot) (ps : List Place) (o : OpenJob) (w : Waiting) (j : Job) → Found xs ps o w j →

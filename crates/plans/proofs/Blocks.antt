@@ -1,16 +1,18 @@
 -- Sectors of a block written upwards, and the bytes that they then hold.
-use Rattle.std.proofs.Common.{◌≡◌, ℕ, zero, suc, ◌+◌, ◌-◌, ◌*◌, ◌<◌, ◌≤◌, List, [], ◌∷◌, ◌++◌, length, get_or, take, drop, set, sym, refl, ap, ◌∙◌, ap₂, inl, inr, append_assoc, add-zero, arith}
+use Rattle.std.proofs.Common.{◌≡◌, ℕ, zero, suc, ◌+◌, ◌-◌, ◌*◌, ◌/◌, ◌<◌, ◌≤◌, List, [], ◌∷◌, ◌++◌, length, get_or, take, drop, set, sym, refl, ap, ◌∙◌, ap₂, inl, inr, append_assoc, add-zero, arith}
 use native.Mathlib.Nat.{sub-zero, zero-sub, suc-sub-suc}
 use Rattle.std.proofs.lemmas.List.{length-set, length-append, length-take-le, take-append-drop, take_all, drop_all, drop-drop, drop-set-lt, take_more_set, take-append-le}
 use Rattle.std.proofs.lemmas.Bool.{cases_lt}
 use Rattle.device.specs.Meaning.{Sectors, Bytes, zeros}
 use Rattle.device.proofs.ByteLists.{take-bytes, drop-bytes, append-bytes}
 use Rattle.device.proofs.Zeros.{length-zeros, take-zeros, drop-zeros}
+use Rattle.layout.specs.Extents.{extent_of}
 use Rattle.places.specs.Places.{Place, acted, counted_up}
 use Rattle.places.specs.SlotWrites.{SlotWrite, fill}
 use Rattle.places.proofs.Lists.{length-counted}
 use Rattle.plans.specs.Slots.{bytes_in}
-use Rattle.plans.specs.Plans.{to_slot, filling, chunk}
+use Rattle.plans.specs.Memory.{OpenJob}
+use Rattle.plans.specs.Plans.{to_slot, filling, chunk, part_writes}
 use Rattle.plans.proofs.Entries.{zeros_bytes}
 
 pub take_app : {X : Type 0} (j : ℕ) (xs ys : List X) → take j (xs ++ ys) ≡ take j xs ++ take (j - length xs) ys
@@ -102,6 +104,12 @@ take_counted g i (suc n) (suc j) h = ap (λ (z : List _). g i ∷ z) (take_count
 pub take-filling : (k f : ℕ) (x : ℕ → List ℕ) (n j : ℕ) → j ≤ n → take j (filling k f x n) ≡ filling k f x j
 unfolding filling
 take-filling k f x n j h = take_counted (write_at k f x) 0 n j h
+
+-- the part-filled sector is a run of one sector, or of none
+pub part_sectors : (o : OpenJob) (g : List ℕ) → length g < 512 → part_writes o g ≡ filling o.slot o.full (chunk g) (extent_of (length g)).0
+unfolding filling
+part_sectors o [] h = refl
+part_sectors o (x ∷ xs) h = let e : (length (x ∷ xs) + 511) / 512 ≡ 1 = omega arith in rw (e, add-zero)
 
 -- all but the sectors that are written stay
 pub bytes_in_laid : (s : Sectors) (f : ℕ) (x : ℕ → List ℕ) (n : ℕ) → Wide s → f + n ≤ length s →

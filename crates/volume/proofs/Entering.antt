@@ -1,5 +1,5 @@
 -- One write, and the entry of a slot read and written.
-use Rattle.std.proofs.Common.{◌≡◌, ℕ, ◌<◌, List, [], ◌∷◌, length, set, Ok, Err, Result, sym, ap, ◌∙◌, subst, inl, inr, arith, lit<}
+use Rattle.std.proofs.Common.{◌≡◌, ℕ, ◌<◌, List, [], ◌∷◌, length, get_or, set, Ok, Err, Result, sym, ap, ◌∙◌, subst, ap₂, inl, inr, arith, lit<}
 use Rattle.device.specs.Faults.{Faults, Within}
 use Rattle.device.specs.Meaning.{Meaning}
 use Rattle.device.specs.Transfers as transfers
@@ -9,10 +9,11 @@ use Rattle.layout.specs.Bytes.{part}
 use Rattle.layout.specs.Sizes.{place_of}
 use Rattle.layout.specs.declared.sizes.Layout.{Layout}
 use Rattle.runs.specs.Writes.{with_sectors, failed_with}
-use Rattle.entries.specs.Entry.{entry_in}
+use Rattle.entries.specs.Entry.{entry_in, entry_bytes}
 use Rattle.entries.specs.declared.entry.Entry.{Entry}
-use Rattle.places.specs.SlotWrites.{SlotWrite, written}
-use Rattle.plans.specs.Plans.{Reads}
+use Rattle.places.specs.Places.{places}
+use Rattle.places.specs.SlotWrites.{SlotWrite, written, spliced}
+use Rattle.plans.specs.Plans.{Reads, for_entries, entering, entry_of, place_in}
 use Rattle.volume.specs.Directory.{ReadEntry}
 use Rattle.volume.specs.Performing.{sector_of, at_write, Runs}
 use Rattle.volume.proofs.Glue.{entry_at}
@@ -52,3 +53,18 @@ entry_read c {m = m} k i l h x e =
       accepted = a.0;
       value = e ∙ ap (λ (z : List ℕ). entry_in (part z (place_of k).offset 32)) a.1 ∙ sym (entry_at c m.sectors k i);
     }
+
+-- the entry of a slot read, changed by f and written
+pub entry_changed : {t u : Faults} (c : Layout) {m m₁ m₂ : Meaning} (k : ℕ) (f : Entry → Entry) {n : ℕ} {b₀ b₁ b₂ : List ℕ} {e x : Entry} (r : Result (Unit {0}) Fault) → Within u t → k < c.slots → n < length m.sectors →
+    length b₀ ≡ 512 → n ≡ (place_of k).sector → transfers.Reads t m m₁ n b₀ b₁ (Ok tt) → e ≡ entry_in (part b₁ (place_of k).offset 32) → x ≡ f e → b₂ ≡ spliced b₁ (place_of k).offset (entry_bytes x) →
+    length b₂ ≡ 512 → transfers.Writes u m₁ m₂ n b₂ r → Runs t c for_entries m m₂ (entering k (f (entry_of (place_in (places c m.sectors) k))) ∷ []) r
+entry_changed {u = u} c {m = m} {m₂ = m₂} k f {n = n} {b₁ = b₁} {b₂ = b₂} {e = e} {x = x} r y l h j i v g z s d w =
+    let a = v.otherwise j h in
+    let was : e ≡ entry_of (place_in (places c m.sectors) k) =
+    g ∙ ap (λ (p : List ℕ). entry_in (part p (place_of k).offset 32)) (a.1 ∙ ap (λ (q : ℕ). get_or m.sectors q []) i) ∙ sym (entry_at c m.sectors k l) in
+    let to : f (entry_of (place_in (places c m.sectors) k)) ≡ x = ap f (sym was) ∙ sym z in
+    let same : b₂ ≡ spliced (get_or m.sectors (place_of k).sector []) (place_of k).offset (entry_bytes x) =
+    s ∙ ap (λ (p : List ℕ). spliced p (place_of k).offset (entry_bytes x)) (a.1 ∙ ap (λ (q : ℕ). get_or m.sectors q []) i) in
+    rw to
+    (one_runs c for_entries (entering k x) r y (ap₂ (λ (q : ℕ) (p : List ℕ). set m.sectors q p) i same) i d h
+    (subst (λ (q : Meaning). transfers.Writes u q m₂ n b₂ r) a.2 w))

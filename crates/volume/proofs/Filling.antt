@@ -159,27 +159,27 @@ next_lt {b = b} {r = r} {i = i} x =
 pub next_le : {b r p q : List ℕ} {i n : ℕ} → n ≡ i + 1 → Next b r p q i → n ≤ (length b + 511) / 512
 next_le e x = omega (arith, next_lt x)
 
-placed : (a i j : ℕ) → i ≡ j → a + i ≡ a + (0 + j)
-placed a i j e = omega arith
+placed : (a f i j k : ℕ) → k ≡ f + j → j ≡ i → a + k ≡ a + (f + i)
+placed a f i j k d e = omega arith
 
 pub writes_as : {t : Faults} {m m' : Meaning} {n : ℕ} {b b' : List ℕ} {r : Result (Unit {0}) Fault} → b ≡ b' → Writes t m m' n b r → Writes t m m' n b' r
 writes_as {t = t} {m = m} {m' = m'} {n = n} {r = r} e w = subst (λ (x : List ℕ). Writes t m m' n x r) e w
 
--- the write of the next part
-next_writes : {u : Faults} {m₁ m₂ : Meaning} {b r p q : List ℕ} {i n : ℕ} (a j : ℕ) {v : Result (Unit {0}) Fault} → Next b r p q i → n ≡ a + j → j ≡ i →
-    Writes u m₁ m₂ n (chunk p 0) v → Writes u m₁ m₂ (a + (0 + i)) (chunk b i) v
-next_writes {b = b} {r = r} {p = p} {q = q} {i = i} a j x e y w =
-    writes_as (chunk_part b r p q i x.left x.parts x.long) (writes_at (e ∙ placed a j i y) w)
+-- the write of the next part, as sector f + j of the block at a
+next_writes : {u : Faults} {m₁ m₂ : Meaning} {b r p q : List ℕ} {i n : ℕ} (a f j : ℕ) {k : ℕ} {v : Result (Unit {0}) Fault} → Next b r p q i → n ≡ a + k → k ≡ f + j → j ≡ i →
+    Writes u m₁ m₂ n (chunk p 0) v → Writes u m₁ m₂ (a + (f + i)) (chunk b i) v
+next_writes {b = b} {r = r} {p = p} {q = q} {i = i} a f j {k = k} x e d y w =
+    writes_as (chunk_part b r p q i x.left x.parts x.long) (writes_at (e ∙ placed a f i j k d y) w)
 
-pub data_more : {u : Faults} (c : Layout) {m m₁ m₂ : Meaning} (k : ℕ) {b r p q : List ℕ} {i n : ℕ} (j : ℕ) → Room c m → k < c.slots → length b ≤ 65535 → Next b r p q i → n ≡ block_of c k + j → j ≡ i →
-    Performed c m m₁ (filling k 0 (chunk b) i) → Writes u m₁ m₂ n (chunk p 0) (Ok tt) → Performed c m m₂ (filling k 0 (chunk b) (i + 1))
-data_more c k {b = b} {i = i} j h l s x e y p w =
-    filled_more c k 0 (chunk b) i h l (omega (arith, next_lt x)) (length-chunk b i) p (next_writes (block_of c k) j x e y w)
+pub data_more : {u : Faults} (c : Layout) {m m₁ m₂ : Meaning} (k f : ℕ) {b r p q : List ℕ} {i n : ℕ} (j : ℕ) {l : ℕ} → Room c m → k < c.slots → 512 * f + length b ≤ 65536 → Next b r p q i → n ≡ block_of c k + l → l ≡ f + j → j ≡ i →
+    Performed c m m₁ (filling k f (chunk b) i) → Writes u m₁ m₂ n (chunk p 0) (Ok tt) → Performed c m m₂ (filling k f (chunk b) (i + 1))
+data_more c k f {b = b} {i = i} j h l s x e d y p w =
+    filled_more c k f (chunk b) i h l (omega (arith, next_lt x)) (length-chunk b i) p (next_writes (block_of c k) f j x e d y w)
 
-pub data_cut : {t u : Faults} (c : Layout) {m m₁ m₂ : Meaning} (k : ℕ) {b r p q : List ℕ} {i n : ℕ} (j : ℕ) {g : Fault} → Within u t → Room c m → k < c.slots → length b ≤ 65535 → Next b r p q i →
-    n ≡ block_of c k + j → j ≡ i → Performed c m m₁ (filling k 0 (chunk b) i) → Writes u m₁ m₂ n (chunk p 0) (Err g) → Cut t c never m m₂ (filling k 0 (chunk b) ((length b + 511) / 512)) g
-data_cut c k {b = b} {i = i} j y h l s x e z p w =
-    filled_cut c k 0 (chunk b) i ((length b + 511) / 512) y h l (omega (arith, next_lt x)) (next_lt x) (length-chunk b i) p (next_writes (block_of c k) j x e z w)
+pub data_cut : {t u : Faults} (c : Layout) {m m₁ m₂ : Meaning} (k f : ℕ) {b r p q : List ℕ} {i n : ℕ} (j : ℕ) {l : ℕ} {g : Fault} → Within u t → Room c m → k < c.slots → 512 * f + length b ≤ 65536 → Next b r p q i →
+    n ≡ block_of c k + l → l ≡ f + j → j ≡ i → Performed c m m₁ (filling k f (chunk b) i) → Writes u m₁ m₂ n (chunk p 0) (Err g) → Cut t c never m m₂ (filling k f (chunk b) ((length b + 511) / 512)) g
+data_cut c k f {b = b} {i = i} j y h l s x e d z p w =
+    filled_cut c k f (chunk b) i ((length b + 511) / 512) y h l (omega (arith, next_lt x)) (next_lt x) (length-chunk b i) p (next_writes (block_of c k) f j x e d z w)
 
 -- ZEROS
 

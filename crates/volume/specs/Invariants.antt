@@ -1,15 +1,11 @@
 -- What holds of the open job that the program keeps, on a card of n sectors.
 use Rattle.std.specs.Prelude.{◌≡◌, ℕ, ◌<◌, Some, Option}
-use Rattle.layout.specs.Sizes.{layout_of, block_of}
+use Rattle.layout.specs.Sizes.{layout_of}
 use Rattle.volume.specs.declared.open_job.OpenJob.{OpenJob}
 
 -- it is in a slot of the card
 abbrev pub InSlot : ℕ → OpenJob → Type 0
 InSlot n j = j.slot < (layout_of n).slots
-
--- its block begins where that slot's does
-abbrev pub InBlock : ℕ → OpenJob → Type 0
-InBlock n j = j.first ≡ block_of (layout_of n) j.slot
 
 -- P holds of the open job, if there is one
 abbrev pub Each : (ℕ → OpenJob → Type 0) → ℕ → Option OpenJob → Type 0

@@ -1,5 +1,5 @@
 // The sectors of a slot's block.
-ghost use Rattle.std.specs.Prelude.{◌≡◌, ◌+◌, ◌≤◌, length};
+ghost use Rattle.std.specs.Prelude.{◌≡◌, ◌+◌, ◌*◌, ◌≤◌, length};
 ghost use Rattle.device.specs.Calls.{KeepsFaults, Means};
 ghost use Rattle.device.specs.Transfers.{Writes};
 ghost use Rattle.layout.specs.Extents.{extent_of};
@@ -41,19 +41,20 @@ pub(crate) fn write_part<D: SectorDevice>(device: &mut D, n: u32, part: &[u8]) -
     device.write(n, &padded_sector(part))
 }
 
-// A job's bytes into the sectors of a slot's block, upwards. Asks: at most 65,535 bytes, as a job has.
+// Bytes of a job into the sectors of a slot's block from number `from` on, upwards. Asks: no more than the block holds.
 pub fn write_data<D: SectorDevice>(
     device: &mut D,
     layout: &Layout,
     slot: u16,
+    from: u8,
     bytes: &[u8],
 ) -> Result<(), Fault>
-    requires { length bytes.now ≤ 65535 }
+    requires { 512 * from + length bytes.now ≤ 65536 }
     ensures keeps { KeepsFaults D.SectorDevice device.old device.new }
-    ensures runs { OfSlot D.SectorDevice layout.now slot device.old device.new (λ t m m'. Runs t layout.now never m m' (filling slot 0 (chunk bytes.now) (extent_of (length bytes.now)).0) result) }
+    ensures runs { OfSlot D.SectorDevice layout.now slot device.old device.new (λ t m m'. Runs t layout.now never m m' (filling slot from (chunk bytes.now) (extent_of (length bytes.now)).0) result) }
 {
     for (i, part) in bytes.chunks(512).enumerate() {
-        write_part(device, block_sector(*layout, slot, i as u8), part)?;
+        write_part(device, block_sector(*layout, slot, from + i as u8), part)?;
     }
     Ok(())
 }

@@ -1,12 +1,13 @@
 // The directory, one slot at a time.
 ghost use Rattle.std.specs.Prelude.{◌≡◌, [], ◌∷◌};
 ghost use Rattle.device.specs.Calls.{KeepsFaults};
-ghost use Rattle.entries.specs.Entry.{entry_in, entry_bytes};
+ghost use Rattle.entries.specs.Entry.{entry_in, entry_bytes, resized};
 ghost use Rattle.layout.specs.Bytes.{part};
 ghost use Rattle.layout.specs.Sizes.{place_of};
 ghost use Rattle.layout.specs.declared.sizes.Layout.{Layout};
 ghost use Rattle.places.specs.SlotWrites.{spliced};
-ghost use Rattle.plans.specs.Plans.{for_entries, entering};
+ghost use Rattle.places.specs.Places.{places};
+ghost use Rattle.plans.specs.Plans.{for_entries, entering, entry_of, place_in};
 ghost use Rattle.volume.specs.Directory.{OfSlot, OfEntry, Turns, ReadsEntry, Holds};
 ghost use Rattle.volume.specs.Performing.{Runs};
 
@@ -76,4 +77,22 @@ pub fn read_entry<D: SectorDevice>(
     let mut sector = zero_sector();
     device.read(entry_place(slot).sector, &mut sector)?;
     Ok(entry_in(&sector, slot))
+}
+
+// Reads a slot's directory sector, gives the entry another size and writes it.
+pub fn resize_entry<D: SectorDevice>(
+    device: &mut D,
+    layout: &Layout,
+    slot: u16,
+    size: u16,
+) -> Result<(), Fault>
+    ensures keeps { KeepsFaults D.SectorDevice device.old device.new }
+    ensures runs { OfSlot D.SectorDevice layout.now slot device.old device.new (λ t m m'. Runs t layout.now for_entries m m' (entering slot (resized (entry_of (place_in (places layout.now m.sectors) slot)) size) ∷ []) result) }
+{
+    let n = entry_place(slot).sector;
+    let mut sector = zero_sector();
+    device.read(n, &mut sector)?;
+    let entry = entry_in(&sector, slot).resized(size);
+    put_entry(&mut sector, slot, &entry);
+    device.write(n, &sector)
 }

@@ -1,7 +1,7 @@
 // What the program keeps of a card.
 ghost use Rattle.std.specs.Prelude.{◌≡◌};
 ghost use Rattle.plans.specs.Memory.{unmounted};
-ghost use Rattle.volume.specs.Invariants.{Each, InSlot, InBlock};
+ghost use Rattle.volume.specs.Invariants.{Each, InSlot};
 
 use crate::open_job::OpenJob;
 
@@ -11,5 +11,4 @@ pub struct Memory {
     pub size: u32,
     pub job: Option<OpenJob>,
     ghost slotted: { Each InSlot size job },
-    ghost blocked: { Each InBlock size job },
 }

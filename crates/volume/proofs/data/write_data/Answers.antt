@@ -1,4 +1,4 @@
-use Rattle.std.proofs.Common.{◌≡◌, ℕ, ◌*◌, drop, sym, ap, ◌∙◌, rules}
+use Rattle.std.proofs.Common.{◌≡◌, ℕ, ◌*◌, drop, sym, refl, ap, ◌∙◌, rules}
 use Rattle.std.proofs.lemmas.Result.{err_from_is_err_and}
 use Rattle.std.specs.Iterator.Adapters.{enumerate_source, enumerate_count}
 use Rattle.std.specs.Slice.Iter.{chunks_rest}
@@ -18,7 +18,7 @@ loop-i-init g c =
       rest = e ∙ ap (λ (k : ℕ). drop (512 * k) b) (sym n);
       some = search rules;
       keeps = search rules;
-      runs = λ l h. performed_as (ap (filling c.args.slot 0 (chunk b)) (sym n)) (filling_none c.args.layout.now _ c.args.slot 0 (chunk b));
+      runs = λ l h. performed_as (ap (filling c.args.slot c.args.from (chunk b)) (sym n)) (filling_none c.args.layout.now _ c.args.slot c.args.from (chunk b));
     }
 
 pub loop-i-preserved : goal.loop-i-preserved
@@ -34,8 +34,8 @@ loop-i-preserved g c =
       some = next_le k.2 x;
       keeps = search rules;
       runs = λ l h.
-          performed_as (ap (filling c.args.slot 0 (chunk c.args.bytes.now)) (sym k.2))
-          (data_more c.args.layout.now c.args.slot c.in-Some.i h l c.requires x c.block_sector.ensures k.1 (i.runs l h) c.in_ok-write_part.ensures.writes);
+          performed_as (ap (filling c.args.slot c.args.from (chunk c.args.bytes.now)) (sym k.2))
+          (data_more c.args.layout.now c.args.slot c.args.from c.in-Some.i h l c.requires x c.block_sector.ensures refl k.1 (i.runs l h) c.in_ok-write_part.ensures.writes);
     }
 
 pub returns-in_err-write_part-clause-runs : goal.returns-in_err-write_part-clause-runs
@@ -45,5 +45,5 @@ returns-in_err-write_part-clause-runs g c = λ l h.
     let v = i.keeps in
     let p = err_from_is_err_and c.from_residual.result c.from_residual.ensures.1 in
     rw (p.1, p.2)
-    (data_cut c.args.layout.now c.args.slot c.in-Some.i v h l c.requires (next_part i.size i.rest k.0.1) c.block_sector.ensures k.1 (i.runs l h)
+    (data_cut c.args.layout.now c.args.slot c.args.from c.in-Some.i v h l c.requires (next_part i.size i.rest k.0.1) c.block_sector.ensures refl k.1 (i.runs l h)
     c.in_err-write_part.ensures.writes)

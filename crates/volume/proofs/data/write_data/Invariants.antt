@@ -21,5 +21,5 @@ invariant-loop-i g l =
       rest : chunks_rest (enumerate_source l.i-iterator) ≡ drop (512 * n) l.bytes;
       some : n ≤ (extent_of (length l.bytes)).0;
       keeps : KeepsFaults d l.initial.device l.device;
-      runs : OfSlot d l.layout l.slot l.initial.device l.device (λ t m m'. Performed l.layout m m' (filling l.slot 0 (chunk l.bytes) n));
+      runs : OfSlot d l.layout l.slot l.initial.device l.device (λ t m m'. Performed l.layout m m' (filling l.slot l.from (chunk l.bytes) n));
     }

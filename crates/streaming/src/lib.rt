@@ -1,0 +1,9 @@
+// The calls of a card on its open job, over any device: each as its plan says.
+#![tactic(auto)]
+
+// Bytes gathered behind the open job.
+pub mod gathering;
+// Putting, committing and finishing.
+pub mod streaming;
+
+pub use streaming::{commit, finish, put};
