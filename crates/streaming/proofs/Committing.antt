@@ -1,5 +1,5 @@
 -- How commit ends, exit by exit.
-use Rattle.std.proofs.Common.{◌≡◌, ℕ, zero, suc, ◌+◌, ◌<◌, ◌≤◌, Bool, true, false, cond, List, [], ◌∷◌, ◌++◌, length, get_or, Some, Ok, Err, Option, Result, ok_or, ◌==◌, sym, refl, ap, ◌∙◌, subst, arith}
+use Rattle.std.proofs.Common.{◌≡◌, ℕ, zero, suc, ◌+◌, ◌<◌, Bool, true, false, cond, List, [], ◌∷◌, ◌++◌, length, get_or, Some, Ok, Err, Option, ok_or, ◌==◌, sym, refl, ap, ◌∙◌, subst, arith}
 use Rattle.std.proofs.lemmas.List.{get_or-set_other}
 use Rattle.device.specs.Faults.{Faults, Within}
 use Rattle.device.specs.Meaning.{Meaning, Sectors}
@@ -22,8 +22,8 @@ use Rattle.plans.specs.Plans.{Plan, tell, go, never, for_entries, filling, chunk
 use Rattle.plans.proofs.Blocks.{write_at, part_sectors}
 use Rattle.volume.specs.Directory.{Room}
 use Rattle.volume.specs.Invariants.{Each, InSlot}
-use Rattle.volume.specs.Kept.{open_job, open_jobs}
-use Rattle.volume.specs.Outcomes.{RefusedBy, Performs, Plain}
+use Rattle.volume.specs.Kept.{open_job}
+use Rattle.volume.specs.Outcomes.{Performs, Plain}
 use Rattle.volume.specs.Performing.{Performed, Cut}
 use Rattle.volume.specs.declared.open_job.OpenJob.{OpenJob}
 use Rattle.volume.proofs.Filling.{performed_as, cut_of}

@@ -56,7 +56,13 @@ pub fn commit<D: SectorDevice>(
         return Ok(());
     }
     let layout = Layout::of(memory.size);
-    write_data(device, &layout, job.slot, job.full, &job.gathered[..job.filled])?;
+    write_data(
+        device,
+        &layout,
+        job.slot,
+        job.full,
+        &job.gathered[..job.filled],
+    )?;
     resize_entry(device, &layout, job.slot, job.size())?;
     memory.job = Some(OpenJob {
         slot: job.slot,

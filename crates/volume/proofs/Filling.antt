@@ -61,6 +61,9 @@ performed_as {c = c} {m = m} {m' = m'} e p = subst (Performed c m m') e p
 pub cut_of : {t : Faults} {c : Layout} {rs : Reads} {m m' : Meaning} {ws vs : List SlotWrite} {f : Fault} → ws ≡ vs → Cut t c rs m m' ws f → Cut t c rs m m' vs f
 cut_of {t = t} {c = c} {rs = rs} {m = m} {m' = m'} {f = f} e p = subst (λ (ws : List SlotWrite). Cut t c rs m m' ws f) e p
 
+pub runs_as : {A : Type 0} (t : Faults) (c : Layout) (rs : Reads) (m m' : Meaning) {ws vs : List SlotWrite} (r : Result A Fault) → ws ≡ vs → Runs t c rs m m' ws r → Runs t c rs m m' vs r
+runs_as t c rs m m' r e p = subst (λ (ws : List SlotWrite). Runs t c rs m m' ws r) e p
+
 -- ONE SECTOR FURTHER
 
 -- sector f + i of the block written, behind i others

@@ -1,5 +1,5 @@
 -- Steps put together: what follows all of some writes, and what cuts them off.
-use Rattle.std.proofs.Common.{◌≡◌, ℕ, zero, suc, ◌+◌, ◌<◌, ◌≤◌, Bool, ◌&&◌, ltb, List, [], ◌∷◌, ◌++◌, length, take, drop, sym, refl, ap, ◌∙◌, subst, ap₂, inl, inr, arith, length-append, lt-ltb, zero-add}
+use Rattle.std.proofs.Common.{◌≡◌, ℕ, zero, suc, ◌+◌, ◌<◌, ◌≤◌, Bool, ◌&&◌, ltb, List, [], ◌∷◌, ◌++◌, length, take, drop, Ok, Err, Result, sym, refl, ap, ◌∙◌, subst, ap₂, inl, inr, arith, length-append, lt-ltb, zero-add}
 use Rattle.std.proofs.lemmas.Bool.{cases_lt}
 use Rattle.std.proofs.lemmas.List.{get_or-append-add, get_or_append_left, take-append-le}
 use Rattle.device.specs.Faults.{Faults, Within}
@@ -21,7 +21,7 @@ use Rattle.places.proofs.Frames.{place_at, place_slot, place_first, length-all_w
 use Rattle.plans.specs.Plans.{Reads, never, for_entries, at_first, between, place_in, entry_of}
 use Rattle.plans.specs.Slots.{job_in, as_slot, slot_by, decoded}
 use Rattle.volume.specs.Directory.{Room, directory_sector, ReadRefused}
-use Rattle.volume.specs.Performing.{Performed, sector_of, no_write, Enters, Looks, Cut, at_write, at_read}
+use Rattle.volume.specs.Performing.{Performed, sector_of, no_write, Enters, Looks, Cut, at_write, at_read, Runs}
 
 pub written_append : (c : Layout) (s : Sectors) (ws vs : List SlotWrite) → all_written c s (ws ++ vs) ≡ all_written c (all_written c s ws) vs
 written_append c s [] vs = refl
@@ -166,6 +166,12 @@ read_cut_at rs {n = n} ws k r =
 
 pub read_cut : {t : Faults} {c : Layout} {m m' : Meaning} {n : ℕ} {ws : List SlotWrite} {f : Fault} → ReadRefused t m m' n f → Cut t c at_first m m' ws f
 read_cut {ws = ws} r = read_cut_at at_first ws (inl refl) r
+
+-- some writes, and then a step with more of them
+pub performed_runs : {A : Type 0} {t u : Faults} {c : Layout} (rs rs' : Reads) {m m₁ : Meaning} (m₂ : Meaning) {ws : List SlotWrite} (vs : List SlotWrite) (r : Result A Fault) → Within u t →
+    ((j : ℕ) → Looks rs vs j → Looks rs' (ws ++ vs) (length ws + j)) → Performed c m m₁ ws → Runs u c rs m₁ m₂ vs r → Runs t c rs' m m₂ (ws ++ vs) r
+performed_runs rs rs' m₂ vs (Ok a) w k p x = performed_performed p x
+performed_runs rs rs' m₂ vs (Err f) w k p x = performed_cut w k p x
 
 -- carried back to where nothing had changed yet
 pub performed_from : {c : Layout} {m m₁ m' : Meaning} {ws : List SlotWrite} → m₁ ≡ m → Performed c m₁ m' ws → Performed c m m' ws

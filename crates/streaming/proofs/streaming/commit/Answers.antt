@@ -1,4 +1,4 @@
-use Rattle.std.proofs.Common.{◌≡◌, ◌<◌, length, refl, arith, rules}
+use Rattle.std.proofs.Common.{rules}
 use Rattle.std.proofs.lemmas.Result.{err_from_is_err_and}
 use Rattle.streaming.proofs.Committing.{commit_not_open, commit_still, commit_cut_data, commit_cut_entry, commit_ends}
 use Rattle.streaming.proofs.streaming.commit.Goals as goal

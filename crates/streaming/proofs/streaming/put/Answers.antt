@@ -1,4 +1,4 @@
-use Rattle.std.proofs.Common.{◌+◌, ◌≤◌, ◌<◌, length, arith, rules}
+use Rattle.std.proofs.Common.{rules}
 use Rattle.std.proofs.lemmas.Result.{err_from_is_err_and}
 use Rattle.streaming.proofs.Endings.{put_not_open, put_too_long, put_ends, put_cut}
 use Rattle.streaming.proofs.streaming.put.Goals as goal
