@@ -1,0 +1,1 @@
+// Loading a job, and reading it from a place on.

@@ -1,0 +1,9 @@
+// The calls of a card that read the bytes of its jobs, over any device: each as its plan says.
+#![tactic(auto)]
+
+// What load tells of a job.
+pub mod job_info;
+// The bytes of a slot's block.
+pub mod blocks;
+
+pub use job_info::JobInfo;
