@@ -104,8 +104,7 @@ part_more u c {m = m} {m₁ = m₁} k place b {buf = buf} {new = new} {a = a} {s
     let d : new ≡ take (e - a) (drop a y) =
     r.2 ∙ ap₂ (λ (z : Meaning) (j : ℕ). part (sector z n) skip j) i t
     ∙ ap₂ (λ (j p : ℕ). part (sector m j) p (e - a)) x.sector x.skipped
-    ∙ sym (sector_part c m k place (length b) a e h w l x.few x.left (x.end ∙ ap (λ (p : ℕ). min (length b) (a + (512 - p))) x.skipped)) in
-    (
+    ∙ sym (sector_part c m k place (length b) a e h w l x.few x.left (x.end ∙ ap (λ (p : ℕ). min (length b) (a + (512 - p))) x.skipped)) in (
       r.1 ∙ i,
       subst (λ (z : Meaning). MayAccept z.condition) i r.0,
       ap₂ (put_mid a (e - a)) o d ∙ laid y b a e (omega (arith, x.end, x.left)) (omega (arith, x.end, length-part c m k place (length b) h w l x.few)),

@@ -1,10 +1,10 @@
 -- Bytes laid into a buffer one part behind the other.
-use Rattle.std.proofs.Common.{◌≡◌, ℕ, ◌+◌, ◌-◌, ◌<◌, ◌≤◌, min, List, [], ◌∷◌, ◌++◌, length, take, drop, sym, refl, ap, ◌∙◌, ap₂, inl, inr, append_assoc, append-nil, arith}
+use Rattle.std.proofs.Common.{◌≡◌, ℕ, ◌+◌, ◌-◌, ◌*◌, ◌<◌, ◌≤◌, min, List, [], ◌∷◌, ◌++◌, length, take, drop, sym, refl, ap, ◌∙◌, ap₂, inl, inr, append_assoc, append-nil, arith}
 use Rattle.std.proofs.lemmas.Bool.{cases_lt}
-use Rattle.std.proofs.lemmas.List.{length-take, length-take-le, length-drop, take_all, take-take, take_at, drop_at, drop_all, drop-drop, take-append-drop, take_min}
+use Rattle.std.proofs.lemmas.List.{length-take, length-take-le, length-drop, take_all, take-take, take_at, drop_at, drop_all, drop-drop, take-append-drop, take_min, drop-append-le}
 use Rattle.std.proofs.lemmas.Slice.{between_is}
 use borrow.Rule.Slice.PartMut.{put_mid}
-use Rattle.reading.specs.Buffers.{over}
+use Rattle.reading.specs.Buffers.{over, PartRead}
 
 -- what lies between two places
 pub take_split : {X : Type 0} (a e : ℕ) (xs : List X) → a ≤ e → take e xs ≡ take a xs ++ take (e - a) (drop a xs)
@@ -44,3 +44,41 @@ pub over_all : (x b : List ℕ) (i : ℕ) → length x ≡ length b → length b
 over_all x b i l h =
     ap (λ (z : List ℕ). over z b) (take_all i x (omega arith))
     ∙ ap (λ (z : List ℕ). x ++ z) (drop_all (length x) b (omega arith)) ∙ append-nil x
+
+-- INTO A BUFFER'S FRONT
+
+behind : (b : List ℕ) (j n : ℕ) → j ≤ n → n ≤ length b → drop j (take n b) ++ drop n b ≡ drop j b
+behind b j n h l =
+    sym (drop-append-le j (take n b) (drop n b) (omega (arith, length-take-le n b l))) ∙ ap (drop j) (take-append-drop n b)
+
+pub front_read : (x b p : List ℕ) (n : ℕ) → length x ≡ n → p ≡ x → p ++ drop n b ≡ over x b
+front_read x b p n l e = ap₂ (λ (z : List ℕ) (k : ℕ). z ++ drop k b) e (sym l)
+
+pub front_part : (x b p : List ℕ) (n skip : ℕ) → length x ≡ n → n ≤ length b → PartRead x skip (take n b) p → PartRead x skip b (p ++ drop n b)
+front_part x b p n skip l h r =
+    let y : List ℕ = take (512 * r.sectors - skip) x in
+    let j : length y ≤ n = omega (arith, length-take (512 * r.sectors - skip) x) in
+    record {
+      sectors = r.sectors;
+      unfinished = r.unfinished;
+      holds =
+          ap (λ (z : List ℕ). z ++ drop n b) r.holds
+          ∙ append_assoc y (drop (length y) (take n b)) (drop n b)
+          ∙ ap (λ (z : List ℕ). y ++ z) (behind b (length y) n j h);
+    }
+
+-- the bytes from a place on, as far as there is room, of the first bytes of y
+pub part_counted : (y : List ℕ) (size place room n : ℕ) → n ≡ min (size - place) room → take room (drop place (take size y)) ≡ take n (drop place y)
+part_counted y size place room n e =
+    let z = drop place y in
+    let f : take room (take (size - place) z) ≡ take n z =
+    elim (cases_lt (size - place) room) [
+      | inl h ↦
+          let k : size - place ≡ n = omega arith in
+          let m : length (take (size - place) z) ≤ room = omega (arith, length-take (size - place) z) in
+          take_all room (take (size - place) z) m ∙ ap (λ (i : ℕ). take i z) k
+      | inr h ↦
+          let k : room ≡ n = omega arith in
+          take-take room (size - place) z h ∙ ap (λ (i : ℕ). take i z) k
+    ] in
+    ap (take room) (sym (between_is y place size)) ∙ f

@@ -5,5 +5,8 @@
 pub mod job_info;
 // The bytes of a slot's block.
 pub mod blocks;
+// Loading a job, and reading it from a place on.
+pub mod loading;
 
 pub use job_info::JobInfo;
+pub use loading::load;
