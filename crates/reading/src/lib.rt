@@ -9,4 +9,4 @@ pub mod blocks;
 pub mod loading;
 
 pub use job_info::JobInfo;
-pub use loading::load;
+pub use loading::{load, read};

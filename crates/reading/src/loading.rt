@@ -48,3 +48,33 @@ pub fn load<D: SectorDevice>(
         address: job.entry.address,
     })
 }
+
+// A job's bytes from a place on, as far as job and buffer go, to the front of the buffer, and how many they are. A place past
+// the job's end is refused (14). Places are counted as the buffer is: the next read begins at place + count, with no conversion.
+pub fn read<D: SectorDevice>(
+    device: &mut D,
+    memory: &Memory,
+    name: &[u8],
+    place: usize,
+    buffer: &mut [u8],
+) -> Result<usize, Refusal>
+    ensures keeps { KeepsFaults D.SectorDevice device.old device.new }
+    ensures performs { Means D.SectorDevice device.old device.new (λ t m m'. Performs t Counted (calls.read name.now place (length buffer.old)) m m' (kept memory.now) (kept memory.now) result) }
+    ensures fills { Means D.SectorDevice device.old device.new (λ t m m'. memory.now.size ≤ length m.sectors → Filled (plan m.sectors (kept memory.now) (calls.read name.now place (length buffer.old))) place buffer.old buffer.new result) }
+{
+    device.size(); // as load does
+    let job = find_named(device, memory, name)?;
+    let size = usize::from(job.entry.size);
+    if size < place {
+        return Err(Refusal::OutOfBounds);
+    }
+    let count = buffer.len().min(size - place);
+    read_into(
+        device,
+        &Layout::of(memory.size),
+        job.slot,
+        place,
+        &mut buffer[..count],
+    )?;
+    Ok(count)
+}
