@@ -73,6 +73,21 @@ sector_part c m k place room a e h w l f i d =
     ∙ bytes_in_part xs b.wide q skip (e - a) (omega (arith, b.many)) (omega arith)
     ∙ ap (λ (z : List ℕ). take (e - a) (drop skip z)) (b.at q q128)
 
+-- the first bytes of sector i of a block
+pub sector_front : (c : Layout) (m : Meaning) (k size i n : ℕ) → Room c m → Lawful m → k < c.slots → size ≤ 65535 → 512 * i < size → n ≡ min (size - 512 * i) 512 →
+    take n (drop (512 * i) (take size (block_bytes c m.sectors k))) ≡ take n (sector m (block_of c k + i))
+sector_front c m k size i n h w l f d e =
+    let xs = (place_in (places c m.sectors) k).sectors in
+    let y = block_bytes c m.sectors k in
+    let b = block_is c m k h w l in
+    let i128 : i < 128 = omega arith in
+    let z : 512 * i ≡ 512 * i + 0 = omega arith in
+    ap (take n) (sym (between_is y (512 * i) size))
+    ∙ take-take n (size - 512 * i) (drop (512 * i) y) (omega arith)
+    ∙ ap (λ (j : ℕ). take n (drop j y)) z
+    ∙ bytes_in_part xs b.wide i 0 n (omega (arith, b.many)) (omega arith)
+    ∙ ap (take n) (b.at i i128)
+
 -- ONE PART FURTHER
 
 -- the numbers that the code has for the next part: of a buffer of the length `room` that is filled up to a
@@ -111,7 +126,7 @@ part_more u c {m = m} {m₁ = m₁} k place b {buf = buf} {new = new} {a = a} {s
     )
 
 -- the same reads, as the device was at first
-refused_from : {t u : Faults} {m m₁ m' : Meaning} {n : ℕ} {f : Fault} → Within u t → m₁ ≡ m → ReadRefused u m₁ m' n f → ReadRefused t m m' n f
+pub refused_from : {t u : Faults} {m m₁ m' : Meaning} {n : ℕ} {f : Fault} → Within u t → m₁ ≡ m → ReadRefused u m₁ m' n f → ReadRefused t m m' n f
 refused_from {u = u} {m' = m'} {n = n} {f = f} w e r =
     let q = subst (λ (x : Meaning). ReadRefused u x m' n f) e r in
     record { refusable = q.refusable; names = w Read n f q.names; leaves = q.leaves }

@@ -1,3 +1,4 @@
 pub mod Parts
 pub mod BlockReads
 pub mod JobReads
+pub mod Pairs

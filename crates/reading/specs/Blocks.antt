@@ -1,5 +1,6 @@
 -- Reads of the bytes of a slot's block.
-use Rattle.std.specs.Prelude.{◌≡◌, ℕ, ◌%◌, ◌<◌, List, length, take, drop, Ok, Err, Result, slice_index_or}
+use Rattle.std.specs.Prelude.{◌≡◌, ℕ, ◌%◌, ◌<◌, Bool, List, length, take, drop, Ok, Err, Result, slice_index_or}
+use Rattle.std.specs.Str.{bytes_eq}
 use Rattle.device.specs.Faults.{Faults}
 use Rattle.device.specs.Meaning.{Meaning, Sectors, MayAccept, sector}
 use Rattle.device.specs.declared.faults.Fault.{Fault}
@@ -36,3 +37,8 @@ ReadsPart t m m' n skip b b' (Err f) = ReadRefused t m m' n f × (b' ≡ b)
 abbrev pub ReadsInto : Faults → (m m' : Meaning) (place : ℕ) (x b b' : List ℕ) → Result (Unit {0}) Fault → Type 0
 ReadsInto t m m' place x b b' (Ok u) = BytesRead m m' x b'
 ReadsInto t m m' place x b b' (Err f) = BytesCut t m m' f (PartRead x (place % 512) b b')
+
+-- whether the bytes x and y are equal
+abbrev pub ComparesBytes : Faults → (m m' : Meaning) (x y : List ℕ) → Result Bool Fault → Type 0
+ComparesBytes t m m' x y (Ok v) = (m' ≡ m) × (v ≡ bytes_eq x y)
+ComparesBytes t m m' x y (Err f) = (n : ℕ) × ReadRefused t m m' n f

@@ -7,6 +7,8 @@ pub mod job_info;
 pub mod blocks;
 // Loading a job, and reading it from a place on.
 pub mod loading;
+// Comparing two jobs.
+pub mod comparing;
 
 pub use job_info::JobInfo;
 pub use loading::{load, read};
