@@ -1,5 +1,5 @@
 -- The bytes of a slot's block, read sector by sector.
-use Rattle.std.proofs.Common.{◌≡◌, ℕ, ◌+◌, ◌-◌, ◌*◌, ◌/◌, ◌%◌, ◌<◌, ◌≤◌, min, List, [], length, get_or, take, drop, Ok, Err, Result, sym, refl, ap, ◌∙◌, ap₂, subst, arith}
+use Rattle.std.proofs.Common.{◌≡◌, ℕ, ◌+◌, ◌-◌, ◌*◌, ◌/◌, ◌%◌, ◌<◌, ◌≤◌, min, List, [], length, get_or, take, drop, Ok, Err, sym, refl, ap, ◌∙◌, ap₂, subst, arith}
 use Rattle.std.proofs.lemmas.List.{length-take-le, length-drop, take-take, drop-drop, get_or-take, get_or-drop}
 use Rattle.std.proofs.lemmas.Slice.{between_is}
 use borrow.Rule.Slice.PartMut.{put_mid}
@@ -12,7 +12,6 @@ use Rattle.layout.specs.Sizes.{block_of}
 use Rattle.layout.specs.declared.sizes.Layout.{Layout}
 use Rattle.places.specs.Places.{places}
 use Rattle.plans.specs.Plans.{place_in}
-use Rattle.plans.specs.Slots.{bytes_in}
 use Rattle.plans.proofs.Blocks.{Wide, wide_from, length-bytes_in, bytes_in_part}
 use Rattle.volume.specs.Directory.{Room, ReadRefused}
 use Rattle.volume.proofs.Glue.{sectors_at}

@@ -1,5 +1,5 @@
 -- A job's bytes read once the job is found, as the end of load and read.
-use Rattle.std.proofs.Common.{◌≡◌, ℕ, ◌+◌, ◌-◌, ◌<◌, ◌≤◌, min, Bool, true, false, cond, List, [], length, take, drop, ◌++◌, Ok, Err, Result, sym, refl, ap, ◌∙◌, subst, inl, inr, arith}
+use Rattle.std.proofs.Common.{◌≡◌, ℕ, ◌+◌, ◌-◌, ◌<◌, ◌≤◌, min, Bool, true, false, cond, List, [], length, take, drop, ◌++◌, sym, refl, ap, ◌∙◌, subst, inl, arith}
 use Rattle.std.proofs.lemmas.List.{length-take-le}
 use Rattle.device.specs.Faults.{Faults, Within}
 use Rattle.device.specs.Meaning.{Meaning, Lawful}
@@ -12,14 +12,14 @@ use Rattle.plans.specs.Calls.{Answer}
 use Rattle.plans.specs.Memory.{Memory, card_layout}
 use Rattle.plans.specs.Plans.{Plan, refuse, go, at_first, place_in, card_places}
 use Rattle.plans.specs.Slots.{Job, Slot, job_in, job_of, decoded}
-use Rattle.volume.specs.Directory.{Room, ReadRefused}
+use Rattle.volume.specs.Directory.{Room, ReadRefused, Passed}
 use Rattle.volume.specs.Outcomes.{AcceptedBy, RefusedBy}
 use Rattle.volume.specs.Performing.{Performed}
 use Rattle.volume.specs.declared.found.Found.{Found}
 use Rattle.volume.proofs.Glue.{room, read_cut, performed_none}
 use Rattle.naming.specs.Named.{FoundJob, ReadsFirst}
 use Rattle.naming.proofs.Endings.{cond_reads, go_ends, go_cut}
-use Rattle.reading.specs.Blocks.{block_bytes, BytesRead, BytesCut, ReadsInto}
+use Rattle.reading.specs.Blocks.{block_bytes, BytesRead, BytesCut}
 use Rattle.reading.specs.Buffers.{over, asked, bytes_in_answer, PartRead}
 use Rattle.reading.proofs.BlockReads.{length-block, length-part}
 use Rattle.reading.proofs.Parts.{front_read, front_part, part_counted}
@@ -83,23 +83,30 @@ out_of_bounds t {m = m} {m₁ = m₁} {q = q} fits answer x e =
     subst (λ (p : Plan). RefusedBy t (card_layout q) p OutOfBounds m m₁ q q) (sym (planned fits answer false x e))
     (inl (record { with_it = refl; was_read = x.passed.was_read; device = x.passed.same; memory = refl }))
 
+-- a plan that goes on to answer a, once the directory was passed over
+pub reads_off : {A : Type 0} {p : Plan} {a : Answer} {m m₁ m' : Meaning} {q : Memory} (V : A → Answer → Type 0) (y : A) → p ≡ go at_first [] a q → Passed (card_layout q) m m₁ → V y a → m' ≡ m₁ →
+    AcceptedBy (card_layout q) V p y m m' q
+reads_off {a = a} {m = m} {m₁ = m₁} {m' = m'} {q = q} V y e x v s =
+    let c = card_layout q in
+    subst (λ (p : Plan). AcceptedBy c V p y m m' q) (sym e)
+    (go_ends c V [] a q m m₁ m' y v x.same x.was_read (subst (λ (z : Meaning). Performed c m₁ z []) (sym s) (performed_none c m₁)))
+
+pub reads_broken : {t u : Faults} {p : Plan} {a : Answer} {m m₁ m' : Meaning} {q : Memory} {n : ℕ} {f : Fault} → p ≡ go at_first [] a q → Passed (card_layout q) m m₁ → Within u t → ReadRefused u m₁ m' n f →
+    RefusedBy t (card_layout q) p (Device f) m m' q q
+reads_broken {t = t} {u = u} {a = a} {m = m} {m₁ = m₁} {m' = m'} {q = q} {f = f} e x w r =
+    let c = card_layout q in
+    subst (λ (p : Plan). RefusedBy t c p (Device f) m m' q q) (sym e) (go_cut t u c at_first [] a q m m₁ m' q f x.same w (λ j l. l) (read_cut r))
+
 pub read_off : {A : Type 0} {P : (ℕ → Plan) → Plan} {m m₁ m' : Meaning} {q : Memory} {v : Found} (V : A → Answer → Type 0) (y : A) (fits : Job → Bool) (answer : Job → Answer) → FoundJob P m m₁ q v →
     fits (job_at q m v) ≡ true → V y (answer (job_at q m v)) → m' ≡ m₁ → AcceptedBy (card_layout q) V (P (reads_on (card_places q m.sectors) q fits answer)) y m m' q
-read_off {m = m} {m₁ = m₁} {m' = m'} {q = q} {v = v} V y fits answer x e a s =
-    let c = card_layout q in
-    subst (λ (p : Plan). AcceptedBy c V p y m m' q) (sym (planned fits answer true x e))
-    (go_ends c V [] (answer (job_at q m v)) q m m₁ m' y a x.passed.same x.passed.was_read
-    (subst (λ (z : Meaning). Performed c m₁ z []) (sym s) (performed_none c m₁)))
+read_off V y fits answer x e a s = reads_off V y (planned fits answer true x e) x.passed a s
 
 pub read_broken : {t u : Faults} {P : (ℕ → Plan) → Plan} {m m₁ m' : Meaning} {q : Memory} {v : Found} {n : ℕ} {f : Fault} (fits : Job → Bool) (answer : Job → Answer) → FoundJob P m m₁ q v →
     fits (job_at q m v) ≡ true → Within u t → ReadRefused u m₁ m' n f → RefusedBy t (card_layout q) (P (reads_on (card_places q m.sectors) q fits answer)) (Device f) m m' q q
-read_broken {t = t} {u = u} {m = m} {m₁ = m₁} {m' = m'} {q = q} {v = v} {f = f} fits answer x e w r =
-    let c = card_layout q in
-    subst (λ (p : Plan). RefusedBy t c p (Device f) m m' q q) (sym (planned fits answer true x e))
-    (go_cut t u c at_first [] (answer (job_at q m v)) q m m₁ m' q f x.passed.same w (λ j l. l) (read_cut r))
+read_broken fits answer x e w r = reads_broken (planned fits answer true x e) x.passed w r
 
 -- what was read of n bytes, told of the card as it was found
-from_card : {P : (ℕ → Plan) → Plan} {m m₁ : Meaning} {q : Memory} {v : Found} {c : Layout} {l n : ℕ} (R : ℕ → Layout → Meaning → Type 0) → l ≡ n → c ≡ card_layout q → q.size ≤ length m.sectors → Lawful m →
+pub from_card : {P : (ℕ → Plan) → Plan} {m m₁ : Meaning} {q : Memory} {v : Found} {c : Layout} {l n : ℕ} (R : ℕ → Layout → Meaning → Type 0) → l ≡ n → c ≡ card_layout q → q.size ≤ length m.sectors → Lawful m →
     FoundJob P m m₁ q v → (v.slot < c.slots → Room c m₁ → Lawful m₁ → R l c m₁) → R n (card_layout q) m
 from_card {m = m} {m₁ = m₁} {q = q} {v = v} {l = l} R k e h w x f =
     let s = sym x.passed.same in

@@ -1,7 +1,7 @@
 -- Bytes laid into a buffer one part behind the other.
-use Rattle.std.proofs.Common.{◌≡◌, ℕ, ◌+◌, ◌-◌, ◌*◌, ◌<◌, ◌≤◌, min, List, [], ◌∷◌, ◌++◌, length, take, drop, sym, refl, ap, ◌∙◌, ap₂, inl, inr, append_assoc, append-nil, arith}
+use Rattle.std.proofs.Common.{◌≡◌, ℕ, ◌+◌, ◌-◌, ◌*◌, ◌≤◌, min, List, ◌++◌, length, take, drop, sym, ap, ◌∙◌, ap₂, inl, inr, append_assoc, append-nil, arith}
 use Rattle.std.proofs.lemmas.Bool.{cases_lt}
-use Rattle.std.proofs.lemmas.List.{length-take, length-take-le, length-drop, take_all, take-take, take_at, drop_at, drop_all, drop-drop, take-append-drop, take_min, drop-append-le}
+use Rattle.std.proofs.lemmas.List.{length-take, length-take-le, take_all, take-take, take_at, drop_at, drop_all, drop-drop, take-append-drop, take_min, drop-append-le}
 use Rattle.std.proofs.lemmas.Slice.{between_is}
 use borrow.Rule.Slice.PartMut.{put_mid}
 use Rattle.reading.specs.Buffers.{over, PartRead}

@@ -1,5 +1,5 @@
 -- Reads of the bytes of a slot's block.
-use Rattle.std.specs.Prelude.{◌≡◌, ℕ, ◌%◌, ◌<◌, Bool, List, length, take, drop, Ok, Err, Result, slice_index_or}
+use Rattle.std.specs.Prelude.{◌≡◌, ℕ, ◌%◌, ◌<◌, Bool, List, length, Ok, Err, Result}
 use Rattle.std.specs.Str.{bytes_eq}
 use Rattle.device.specs.Faults.{Faults}
 use Rattle.device.specs.Meaning.{Meaning, Sectors, MayAccept, sector}

@@ -2,7 +2,6 @@
 use Rattle.std.specs.Prelude.{◌≡◌, ℕ, ◌+◌, ◌-◌, ◌*◌, ◌%◌, ◌<◌, ◌⊎◌, List, [], ◌++◌, length, take, drop, Ok, Err, Result}
 use Rattle.refusals.specs.Refusals.{IsByDevice}
 use Rattle.refusals.specs.declared.Refusal.{Refusal}
-use Rattle.plans.specs.Slots.{Job}
 use Rattle.plans.specs.Calls.{Answer, done, handle, uncommitted, loaded, bytes, jobs, equal, faults}
 use Rattle.plans.specs.Plans.{Plan, tell, decline, refuse, go}
 

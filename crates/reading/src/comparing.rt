@@ -47,3 +47,28 @@ fn equal_blocks<D: SectorDevice>(
     }
     Ok(true)
 }
+
+// Whether two jobs have equal bytes. A job equals itself.
+pub fn same<D: SectorDevice>(
+    device: &mut D,
+    memory: &Memory,
+    one: &[u8],
+    other: &[u8],
+) -> Result<bool, Refusal>
+    ensures keeps { KeepsFaults D.SectorDevice device.old device.new }
+    ensures performs { Means D.SectorDevice device.old device.new (λ t m m'. Performs t Compared (calls.same one.now other.now) m m' (kept memory.now) (kept memory.now) result) }
+{
+    // asked for what a device promises with it: that every sector has 512 bytes, so that entries tell their jobs' lengths
+    device.size();
+    let one = padded(one)?;
+    let other = padded(other)?;
+    let layout = Layout::of(memory.size);
+    let jobs = scan(device, &layout, &one, &other)?;
+    let first = jobs.one.ok_or(Refusal::NoJob)?;
+    let second = jobs.other.ok_or(Refusal::NoJob)?;
+    let size = first.entry.size;
+    if size != second.entry.size {
+        return Ok(false);
+    }
+    Ok(equal_blocks(device, &layout, first.slot, second.slot, size)?)
+}

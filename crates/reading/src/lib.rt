@@ -10,5 +10,6 @@ pub mod loading;
 // Comparing two jobs.
 pub mod comparing;
 
+pub use comparing::same;
 pub use job_info::JobInfo;
 pub use loading::{load, read};

@@ -1,5 +1,5 @@
 -- The first bytes are read, up to the end of a sector.
-use Rattle.std.proofs.Common.{◌≡◌, ℕ, ◌+◌, ◌-◌, ◌*◌, ◌/◌, ◌%◌, ◌<◌, ◌≤◌, length, take}
+use Rattle.std.proofs.Common.{◌≡◌, ◌+◌, ◌-◌, ◌*◌, ◌/◌, ◌%◌, ◌<◌, ◌≤◌, length, take}
 use Rattle.device.specs.Calls.{KeepsFaults}
 use Rattle.device.specs.Meaning.{Lawful, MayAccept}
 use Rattle.layout.specs.Bytes.{part as part_of}

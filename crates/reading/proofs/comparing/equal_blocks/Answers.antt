@@ -1,6 +1,5 @@
-use Rattle.std.proofs.Common.{◌≡◌, ℕ, ◌-◌, ◌*◌, ◌<◌, ◌≤◌, min, length, take, ◌∙◌, refl, sym, ap, arith, rules}
+use Rattle.std.proofs.Common.{◌≡◌, ℕ, ◌-◌, ◌*◌, ◌≤◌, min, ◌∙◌, refl, sym, ap, arith, rules}
 use Rattle.std.proofs.lemmas.Result.{err_from_is_err_and}
-use Rattle.reading.specs.Blocks.{block_bytes}
 use Rattle.reading.proofs.Pairs.{turn_of, turn_read, turn_refused, length-front, same_so_far, differ_here, all_same}
 use Rattle.reading.proofs.comparing.equal_blocks.Goals as goal
 
