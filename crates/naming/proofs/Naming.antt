@@ -82,6 +82,16 @@ padded_ok : (n : List ℕ) {y : List ℕ} (b : Bool) → lawful_name n ≡ b →
 padded_ok n true e f = (e, cc)
 padded_ok n false e f = cc
 
+pub padded_lawful : (n : List ℕ) {y : List ℕ} → padded_name n ≡ Ok y → (lawful_name n ≡ true) × (y ≡ padded n)
+padded_lawful n e = padded_ok n (lawful_name n) refl e
+
+pub padded_unlawful : (n : List ℕ) {x : Refusal} → padded_name n ≡ Err x → (lawful_name n ≡ false) × (x ≡ Name)
+padded_unlawful n {x = x} e = at (lawful_name n) refl e
+  where
+    at : (b : Bool) → lawful_name n ≡ b → cond {A = Result (List ℕ) Refusal} b (Ok (padded n)) (Err Name) ≡ Err x → (lawful_name n ≡ false) × (x ≡ Name)
+    at true f z = cc
+    at false f z = (f, cc)
+
 pub named_rest : (ps : List Place) (n : List ℕ) {y : List ℕ} → padded_name n ≡ Ok y → (g : ℕ → Plan) → named_plan ps n g ≡ padded_plan ps y g
 named_rest ps n e g =
     let l = padded_ok n (lawful_name n) refl e in

@@ -1,7 +1,7 @@
 -- Sectors of a block written upwards, and the bytes that they then hold.
 use Rattle.std.proofs.Common.{◌≡◌, ℕ, zero, suc, ◌+◌, ◌-◌, ◌*◌, ◌/◌, ◌<◌, ◌≤◌, List, [], ◌∷◌, ◌++◌, length, get_or, take, drop, set, sym, refl, ap, ◌∙◌, ap₂, inl, inr, append_assoc, add-zero, arith}
 use native.Mathlib.Nat.{sub-zero, zero-sub, suc-sub-suc}
-use Rattle.std.proofs.lemmas.List.{length-set, length-append, length-take-le, take-append-drop, take_all, drop_all, drop-drop, drop-set-lt, take_more_set, take-append-le}
+use Rattle.std.proofs.lemmas.List.{length-set, length-append, length-drop, length-take-le, take-append-drop, take_all, drop_all, drop_at, drop-drop, drop-set-lt, take_more_set, take-append-le, drop-append-le}
 use Rattle.std.proofs.lemmas.Bool.{cases_lt}
 use Rattle.device.specs.Meaning.{Sectors, Bytes, zeros}
 use Rattle.device.proofs.ByteLists.{take-bytes, drop-bytes, append-bytes}
@@ -49,6 +49,21 @@ bytes_in_take (suc f) (x ∷ xs) w h =
     let q : 512 * suc f - length x ≡ 512 * f = omega (arith, w.0) in
     ap (λ (z : List ℕ). x ++ z) (bytes_in_take f xs w.1 (omega arith))
     ∙ sym (take_app (512 * suc f) x (bytes_in xs) ∙ ap₂ ◌++◌ (take_all (512 * suc f) x (omega (arith, w.0))) (ap (λ (z : ℕ). take z (bytes_in xs)) q))
+
+-- bytes that lie within one sector
+pub bytes_in_part : (xs : Sectors) → Wide xs → (q skip n : ℕ) → q < length xs → skip + n ≤ 512 → take n (drop (512 * q + skip) (bytes_in xs)) ≡ take n (drop skip (get_or xs q []))
+bytes_in_part [] w q skip n h l = absurd (omega arith)
+bytes_in_part (x ∷ xs) w zero skip n h l =
+    let e : 512 * zero + skip ≡ skip = omega arith in
+    let k : n ≤ length (drop skip x) = omega (arith, length-drop skip x, w.0) in
+    ap (λ (z : ℕ). take n (drop z (x ++ bytes_in xs))) e
+    ∙ ap (take n) (drop-append-le skip x (bytes_in xs) (omega (arith, w.0)))
+    ∙ take-append-le n (drop skip x) (bytes_in xs) k
+bytes_in_part (x ∷ xs) w (suc q) skip n h l =
+    let e : 512 * suc q + skip ≡ 512 + (512 * q + skip) = omega arith in
+    ap (λ (z : ℕ). take n (drop z (x ++ bytes_in xs))) e
+    ∙ ap (take n) (sym (drop-drop (512 * q + skip) 512 (x ++ bytes_in xs)) ∙ ap (drop (512 * q + skip)) (drop_at x (bytes_in xs) 512 w.0))
+    ∙ bytes_in_part xs w.1 q skip n (omega arith) l
 
 -- A RUN OF SECTORS WRITTEN
 

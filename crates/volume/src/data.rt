@@ -13,7 +13,7 @@ use layout::Layout;
 use runs::write_zeros;
 
 // A sector of a slot's block. The layout comes by value: behind a reference its numbers are not known to fit their types.
-fn block_sector(layout: Layout, slot: u16, i: u8) -> u32
+pub fn block_sector(layout: Layout, slot: u16, i: u8) -> u32
     ensures { result ≡ block_of layout slot + i }
 {
     layout.block(slot) + u32::from(i)

@@ -16,7 +16,7 @@ pub mod data;
 // Passes over the directory.
 pub mod search;
 
-pub use data::{write_data, zero_block};
+pub use data::{block_sector, write_data, zero_block};
 pub use directory::{read_entry, resize_entry, turn_to, write_entry};
 pub use found::{Found, Scan};
 pub use memory::Memory;

@@ -1,0 +1,91 @@
+use Rattle.std.proofs.Common.{ℕ, ◌≤◌, Bool, leb, length, inr, arith}
+use Rattle.std.proofs.lemmas.Bool.{le-leb, lt-leb}
+use Rattle.std.proofs.lemmas.List.{length-take-le}
+use Rattle.std.proofs.lemmas.Result.{err_from_is_err_and}
+use Rattle.plans.specs.Calls.{loaded}
+use Rattle.plans.specs.Plans.{load_plan, card_places}
+use Rattle.plans.specs.Slots.{Job}
+use Rattle.volume.specs.Kept.{kept}
+use Rattle.reading.specs.Answers.{Loaded}
+use Rattle.reading.proofs.JobReads.{reads_on, on_reads, length-job, told_at, all_bytes, out_of_bounds, read_off, read_broken, card_read, card_cut, length-card, filled_off, filled_cut}
+use Rattle.reading.proofs.loading.load.Goals as goal
+
+-- the job has room in a buffer of n bytes
+abbrev has_room : ℕ → Job → Bool
+has_room n j = leb (length j.bytes) n
+
+pub returns-in_err-job-clause-performs : goal.returns-in_err-job-clause-performs
+unfolding load_plan
+returns-in_err-job-clause-performs g c =
+    let q = kept c.args.memory.now in
+    let r = has_room (length c.args.buffer.now) in
+    let ps = card_places q (g.D.SectorDevice.meaning c.args.device.now).sectors in
+    let p = err_from_is_err_and c.from_residual.result c.from_residual.ensures.1 in
+    rw (p.1, p.2) (record { ends = λ h. c.in_err-job.ensures.finds h (reads_on ps q r loaded) (on_reads ps q r loaded) })
+
+pub returns-then-buffer-size-clause-performs : goal.returns-then-buffer-size-clause-performs
+unfolding load_plan
+returns-then-buffer-size-clause-performs g c =
+    let e : c.in_ok-job.job.entry.size ≤ 65535 = omega arith in
+    record {
+      ends = λ h.
+          let f = c.in_ok-job.ensures.finds h in
+          out_of_bounds _ (has_room (length c.args.buffer.now)) loaded f (lt-leb _ _ (omega (arith, length-job h c.size.ensures.lawful f e)));
+    }
+
+pub returns-in_err-read_into-clause-performs : goal.returns-in_err-read_into-clause-performs
+unfolding load_plan
+returns-in_err-read_into-clause-performs g c =
+    let b = c.args.buffer.now in
+    let w = c.size.ensures.lawful in
+    let k = c.in_ok-job.ensures.keeps in
+    let e : c.in_ok-job.job.entry.size ≤ 65535 = omega arith in
+    let p = err_from_is_err_and c.from_residual-in_err-read_into.result c.from_residual-in_err-read_into.ensures.1 in
+    rw (p.1, p.2)
+    (record {
+      ends = λ h.
+          let f = c.in_ok-job.ensures.finds h in
+          let r = card_cut 0 (length-take-le c.from-size.result b (omega arith)) c.of.ensures h w f c.in_err-read_into.ensures.reads in
+          read_broken (has_room (length b)) loaded f (le-leb _ _ (omega (arith, length-job h w f e))) k r.refused;
+    })
+
+pub returns-in_err-read_into-clause-fills : goal.returns-in_err-read_into-clause-fills
+unfolding load_plan
+returns-in_err-read_into-clause-fills g c = λ h.
+    let q = kept c.args.memory.now in
+    let b = c.args.buffer.now in
+    let w = c.size.ensures.lawful in
+    let f = c.in_ok-job.ensures.finds h in
+    let n = c.from-size.result in
+    let e : c.in_ok-job.job.entry.size ≤ 65535 = omega arith in
+    let r = card_cut 0 (length-take-le n b (omega arith)) c.of.ensures h w f c.in_err-read_into.ensures.reads in
+    let p = err_from_is_err_and c.from_residual-in_err-read_into.result c.from_residual-in_err-read_into.ensures.1 in
+    rw (p.1, p.2)
+    (inr (filled_cut (has_room (length b)) loaded _ b c.read_into.new.part f (le-leb _ _ (omega (arith, length-job h w f e)))
+    (all_bytes q (g.D.SectorDevice.meaning c.args.device.now) c.in_ok-job.job c.from-size.ensures) (length-card 0 n h w f (omega arith)) (omega arith) r.holds))
+
+pub returns-clause-performs : goal.returns-clause-performs
+unfolding load_plan
+returns-clause-performs g c =
+    let b = c.args.buffer.now in
+    let w = c.size.ensures.lawful in
+    let e : c.in_ok-job.job.entry.size ≤ 65535 = omega arith in
+    record {
+      ends = λ h.
+          let f = c.in_ok-job.ensures.finds h in
+          let r = card_read 0 (length-take-le c.from-size.result b (omega arith)) c.of.ensures h w f c.in_ok-read_into.ensures.reads in
+          read_off Loaded _ (has_room (length b)) loaded f (le-leb _ _ (omega (arith, length-job h w f e))) (told_at h w f e) r.same;
+    }
+
+pub returns-clause-fills : goal.returns-clause-fills
+unfolding load_plan
+returns-clause-fills g c = λ h.
+    let q = kept c.args.memory.now in
+    let b = c.args.buffer.now in
+    let w = c.size.ensures.lawful in
+    let f = c.in_ok-job.ensures.finds h in
+    let n = c.from-size.result in
+    let e : c.in_ok-job.job.entry.size ≤ 65535 = omega arith in
+    let r = card_read 0 (length-take-le n b (omega arith)) c.of.ensures h w f c.in_ok-read_into.ensures.reads in
+    filled_off (has_room (length b)) loaded _ b c.read_into.new.part f (le-leb _ _ (omega (arith, length-job h w f e)))
+    (all_bytes q (g.D.SectorDevice.meaning c.args.device.now) c.in_ok-job.job c.from-size.ensures) (length-card 0 n h w f (omega arith)) r
