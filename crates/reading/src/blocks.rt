@@ -31,7 +31,7 @@ fn read_part<D: SectorDevice>(
 }
 
 // The bytes of a slot's block from a place on, as many as the part takes. Asks: that they are a job's, at most 65,535.
-pub(crate) fn read_into<D: SectorDevice>(
+pub fn read_into<D: SectorDevice>(
     device: &mut D,
     layout: &Layout,
     slot: u16,

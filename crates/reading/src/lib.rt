@@ -10,6 +10,7 @@ pub mod loading;
 // Comparing two jobs.
 pub mod comparing;
 
+pub use blocks::read_into;
 pub use comparing::same;
 pub use job_info::JobInfo;
 pub use loading::{load, read};
