@@ -1,2 +1,3 @@
 pub mod LabelRead
 pub mod Marking
+pub mod Emptying
