@@ -1,3 +1,4 @@
 pub mod LabelRead
 pub mod Marking
 pub mod Emptying
+pub mod Renaming
