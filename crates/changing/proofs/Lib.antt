@@ -2,3 +2,4 @@ pub mod LabelRead
 pub mod Marking
 pub mod Emptying
 pub mod Renaming
+pub mod Sweeping

@@ -11,4 +11,4 @@ pub mod wiping;
 
 pub use erasing::{erase, rename};
 pub use mounting::mount;
-pub use wiping::wipe;
+pub use wiping::{sweep, wipe};

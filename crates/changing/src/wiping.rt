@@ -9,11 +9,11 @@ ghost use Rattle.volume.specs.Outcomes.{Performs, Plain};
 ghost use Rattle.volume.specs.Performing.{Runs};
 
 use device::{Fault, SectorDevice, zero_sector};
-use entries::Entry;
+use entries::{Entry, EntryState};
 use layout::Layout;
 use naming::find_shut;
 use refusals::Refusal;
-use volume::{Memory, write_entry, zero_block};
+use volume::{Memory, entry_in, turn_to, write_entry, zero_block};
 
 // Zeros over the first sectors of a slot's block, and then the empty entry. Leaves its directory sector in the buffer.
 fn empty_slot<D: SectorDevice>(
@@ -43,6 +43,24 @@ pub fn wipe<D: SectorDevice>(device: &mut D, memory: &Memory, name: &[u8]) -> Re
     if count > 0 {
         let layout = Layout::of(memory.size);
         empty_slot(device, &layout, job.slot, count, &mut sector)?;
+    }
+    Ok(())
+}
+
+// Completes the wipes that were cut off, from the lowest slot up. The buffer holds a slot's directory sector on from its
+// first slot, so each is read once but for the entries that are written into it.
+pub fn sweep<D: SectorDevice>(device: &mut D, memory: &Memory) -> Result<(), Refusal>
+    ensures keeps { KeepsFaults D.SectorDevice device.old device.new }
+    ensures performs { Means D.SectorDevice device.old device.new (λ t m m'. Performs t Plain calls.sweep m m' (kept memory.now) (kept memory.now) result) }
+{
+    let layout = Layout::of(memory.size);
+    let mut sector = zero_sector();
+    for slot in 0..layout.slots {
+        turn_to(device, slot, &mut sector)?;
+        let state = entry_in(&sector, slot).state(&layout, slot);
+        if let EntryState::Held(count) = state {
+            empty_slot(device, &layout, slot, count, &mut sector)?;
+        }
     }
     Ok(())
 }
