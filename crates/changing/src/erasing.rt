@@ -5,10 +5,11 @@ ghost use Rattle.volume.specs.Kept.{kept};
 ghost use Rattle.volume.specs.Outcomes.{Performs, Plain};
 
 use device::{SectorDevice, zero_sector};
-use layout::{Layout, Name};
+use entries::EntryState;
+use layout::{Layout, Name, is_name_byte};
 use naming::{find_shut, is_open, padded};
 use refusals::Refusal;
-use volume::{Memory, scan, write_entry};
+use volume::{Memory, find, read_entry, scan, write_entry};
 
 // Erases a job that is not open: its entry is marked, and can be brought back until its slot is taken.
 pub fn erase<D: SectorDevice>(device: &mut D, memory: &Memory, name: &[u8]) -> Result<(), Refusal>
@@ -44,5 +45,38 @@ pub fn rename<D: SectorDevice>(
     }
     let mut sector = zero_sector();
     write_entry(device, job.slot, &job.entry.renamed(&new), &mut sector)?;
+    Ok(())
+}
+
+// Brings back the job that was erased from a slot, with this letter as the first byte of its name. It has to be live then,
+// and no other may have that name. A slot past the last of the card is told without a read.
+pub fn undelete<D: SectorDevice>(
+    device: &mut D,
+    memory: &Memory,
+    slot: u16,
+    letter: u8,
+) -> Result<(), Refusal>
+    ensures keeps { KeepsFaults D.SectorDevice device.old device.new }
+    ensures performs { Means D.SectorDevice device.old device.new (λ t m m'. Performs t Plain (calls.undelete slot letter) m m' (kept memory.now) (kept memory.now) result) }
+{
+    if !is_name_byte(letter) {
+        return Err(Refusal::Name);
+    }
+    let layout = Layout::of(memory.size);
+    if slot >= layout.slots {
+        return Err(Refusal::NotErased);
+    }
+    let entry = read_entry(device, &layout, slot)?;
+    let restored = entry.with_first(letter);
+    let was = entry.state(&layout, slot);
+    let becomes = restored.state(&layout, slot);
+    if was != EntryState::Erased || becomes != EntryState::Live {
+        return Err(Refusal::NotErased);
+    }
+    if find(device, &layout, &restored.name)?.is_some() {
+        return Err(Refusal::NameTaken);
+    }
+    let mut sector = zero_sector();
+    write_entry(device, slot, &restored, &mut sector)?;
     Ok(())
 }

@@ -9,6 +9,6 @@ pub mod erasing;
 // Wiping, and the end of wipes that were cut off.
 pub mod wiping;
 
-pub use erasing::{erase, rename};
+pub use erasing::{erase, rename, undelete};
 pub use mounting::mount;
 pub use wiping::{sweep, wipe};
