@@ -3,3 +3,4 @@ pub mod Marking
 pub mod Emptying
 pub mod Renaming
 pub mod Sweeping
+pub mod Undeleting

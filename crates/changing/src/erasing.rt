@@ -1,11 +1,14 @@
 // Erasing, renaming and bringing back.
+ghost use Rattle.std.specs.Prelude.{◌≡◌, ◌&&◌};
 ghost use Rattle.device.specs.Calls.{KeepsFaults, Means};
+ghost use Rattle.entries.specs.State.{state_of};
 ghost use Rattle.plans.specs.Calls as calls;
+ghost use Rattle.plans.specs.Slots.{Job, as_slot, is_erased, is_live};
 ghost use Rattle.volume.specs.Kept.{kept};
 ghost use Rattle.volume.specs.Outcomes.{Performs, Plain};
 
 use device::{SectorDevice, zero_sector};
-use entries::EntryState;
+use entries::{Entry, EntryState};
 use layout::{Layout, Name, is_name_byte};
 use naming::{find_shut, is_open, padded};
 use refusals::Refusal;
@@ -48,6 +51,14 @@ pub fn rename<D: SectorDevice>(
     Ok(())
 }
 
+// Whether a slot has an erased job, which would be live with its entry restored.
+fn is_restorable(entry: &Entry, restored: &Entry, layout: &Layout, slot: u16) -> bool
+    ensures { (i j : Job) → result ≡ (is_erased (as_slot (state_of layout.now slot entry.now) i) && is_live (as_slot (state_of layout.now slot restored.now) j)) }
+{
+    entry.state(layout, slot) == EntryState::Erased
+        && restored.state(layout, slot) == EntryState::Live
+}
+
 // Brings back the job that was erased from a slot, with this letter as the first byte of its name. It has to be live then,
 // and no other may have that name. A slot past the last of the card is told without a read.
 pub fn undelete<D: SectorDevice>(
@@ -68,9 +79,7 @@ pub fn undelete<D: SectorDevice>(
     }
     let entry = read_entry(device, &layout, slot)?;
     let restored = entry.with_first(letter);
-    let was = entry.state(&layout, slot);
-    let becomes = restored.state(&layout, slot);
-    if was != EntryState::Erased || becomes != EntryState::Live {
+    if !is_restorable(&entry, &restored, &layout, slot) {
         return Err(Refusal::NotErased);
     }
     if find(device, &layout, &restored.name)?.is_some() {
