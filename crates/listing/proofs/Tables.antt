@@ -25,7 +25,7 @@ length-kept [] = omega arith
 length-kept (None ∷ xs) = omega (arith, length-kept xs)
 length-kept (Some r ∷ xs) = omega (arith, length-kept xs)
 
-rows_more : {R : Type 0} (f : ℕ → Option R) (k : ℕ) → rows_below f (k + 1) ≡ rows_below f k ++ kept (f k ∷ [])
+pub rows_more : {R : Type 0} (f : ℕ → Option R) (k : ℕ) → rows_below f (k + 1) ≡ rows_below f k ++ kept (f k ∷ [])
 rows_more f k =
     ap kept (counted_more f 0 k) ∙ kept_append (counted_up f 0 k) (f (0 + k) ∷ [])
     ∙ ap (λ (i : ℕ). rows_below f k ++ kept (f i ∷ [])) (zero-add k)
@@ -43,7 +43,7 @@ rows_rest f k n h =
 pub holds_none : {R : Type 0} {old : List R} {t : RowTable R} → t.total ≡ 0 → t.rows.now ≡ old → Holds [] old t
 holds_none e f = record { total = e; slice = f }
 
-holds_offered : {R : Type 0} (o : Option R) {xs old : List R} {t t' : RowTable R} → length xs < 18446744073709551615 → Holds xs old t → Offered o t t' → Holds (xs ++ kept (o ∷ [])) old t'
+pub holds_offered : {R : Type 0} (o : Option R) {xs old : List R} {t t' : RowTable R} → length xs < 18446744073709551615 → Holds xs old t → Offered o t t' → Holds (xs ++ kept (o ∷ [])) old t'
 holds_offered {R = R} None {xs = xs} {old = old} {t' = t'} h p o =
     subst (λ (ys : List R). Holds ys old t') (sym (append-nil xs)) (record { total = o.0 ∙ p.total; slice = o.1 ∙ p.slice })
 holds_offered {R = R} (Some r) {xs = xs} {old = old} h p o =

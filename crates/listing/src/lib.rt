@@ -5,5 +5,12 @@
 mod offering;
 // The jobs of a card.
 pub mod jobs;
+// The first fault of an entry.
+mod faults;
+// Names that are live in a lower slot already.
+mod names;
+// The faults of a directory.
+pub mod checks;
 
+pub use checks::check;
 pub use jobs::list;
