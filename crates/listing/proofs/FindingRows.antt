@@ -1,5 +1,5 @@
 -- The rows of a check, sector by sector.
-use Rattle.std.proofs.Common.{◌≡◌, ℕ, zero, suc, ◌+◌, ◌-◌, ◌*◌, ◌<◌, ◌≤◌, min, Bool, false, List, [], ◌∷◌, ◌++◌, length, get_or, take, is_some, Ok, Err, Option, Result, sym, refl, ap, ◌∙◌, subst, ap₂, append_assoc, append-nil, add-zero, arith}
+use Rattle.std.proofs.Common.{◌≡◌, ℕ, zero, suc, ◌+◌, ◌-◌, ◌*◌, ◌/◌, ◌<◌, ◌≤◌, Bool, false, List, [], ◌∷◌, ◌++◌, length, get_or, Ok, Err, Option, sym, refl, ap, ◌∙◌, subst, ap₂, append_assoc, append-nil, add-zero, arith}
 use Rattle.std.proofs.lemmas.List.{length-append}
 use Rattle.device.specs.Faults.{Faults, Within}
 use Rattle.device.specs.Meaning.{Meaning, Sectors, MayAccept}
@@ -12,7 +12,7 @@ use Rattle.places.specs.Places.{place, places, counted_up, entries_listed}
 use Rattle.plans.specs.Calls.{Answer, faults, check}
 use Rattle.plans.specs.Memory.{Memory, card_layout}
 use Rattle.plans.specs.Rows.{fault_in, finding, finding_at, findings, kept}
-use Rattle.plans.specs.Slots.{lowest, named, slots_in}
+use Rattle.plans.specs.Slots.{slots_in}
 use Rattle.rows.specs.declared.finding.Finding.{Finding}
 use Rattle.rows.specs.declared.table.RowTable.{RowTable}
 use Rattle.volume.specs.Directory.{Room, ReadRefused, directory_sector}
@@ -74,14 +74,14 @@ unfolding findings_in
 sector_rows c s b taken a n e f =
     let x : a + n - a ≡ n = omega arith in
     sym
-        (rows_rest (finding_at c s) a (a + n) (omega arith)
-        ∙ ap (λ (xs : List (Option Finding)). rows_below (finding_at c s) a ++ kept xs)
-            (ap (counted_up (finding_at c s) (0 + a)) x
-            ∙ counted_moved (finding_at c s) (row_in c b taken a) (0 + a) 0 n
-                (λ i l.
-                    let p : 0 + a + i ≡ a + i = omega arith in
-                    let q : i ≡ 0 + i = omega arith in
-                    ap (finding_at c s) p ∙ same_finding c s (a + i) (e i l) (f i l) ∙ ap (row_in c b taken a) q)))
+    (rows_rest (finding_at c s) a (a + n) (omega arith)
+    ∙ ap (λ (xs : List (Option Finding)). rows_below (finding_at c s) a ++ kept xs)
+    (ap (counted_up (finding_at c s) (0 + a)) x
+    ∙ counted_moved (finding_at c s) (row_in c b taken a) (0 + a) 0 n
+    (λ i l.
+    let p : 0 + a + i ≡ a + i = omega arith in
+    let q : i ≡ 0 + i = omega arith in
+    ap (finding_at c s) p ∙ same_finding c s (a + i) (e i l) (f i l) ∙ ap (row_in c b taken a) q)))
 
 -- the sectors below n were looked at, and the table holds the rows of their entries
 pub record Checked (c : Layout) (m m' : Meaning) (n : ℕ) (old : List Finding) (t : RowTable Finding) : Type 0 where
@@ -98,8 +98,14 @@ in_card s m {c = c} {n = n} e l h r =
     let q : c.area ≡ (layout_of s).area = ap (λ (y : Layout). y.area) e in
     omega arith
 
-abbrev read_answer : {u : Faults} {m₁ m₂ : Meaning} {n : ℕ} {b b' : List ℕ} → Reads u m₁ m₂ n b b' (Ok tt) → length b ≡ 512 → n < length m₁.sectors → MayAccept m₁.condition × (b' ≡ get_or m₁.sectors n []) × (m₂ ≡ m₁)
-read_answer x l h = x.otherwise l h
+pub in_room : (s : ℕ) (m : Meaning) {c : Layout} → c ≡ layout_of s → s ≤ length m.sectors → Room c m
+in_room s m e h = subst (λ (y : Layout). Room y m) (sym e) (room s m h)
+
+-- the rows of the sectors below one of the directory
+pub few_below : (s : ℕ) (x : Sectors) {c : Layout} {n : ℕ} → c ≡ layout_of s → n < c.area → length (rows_below (finding_at c x) (16 * (n - 1))) ≤ 65520
+few_below s x {c = c} {n = n} e h =
+    let q : c.area ≡ (layout_of s).area = ap (λ (y : Layout). y.area) e in
+    omega (arith, few_rows (finding_at c x) (16 * (n - 1)))
 
 pub checked_more : {u : Faults} {c : Layout} {m m₁ m₂ m₃ : Meaning} {n : ℕ} {b b' : List ℕ} {taken : List Bool} {old : List Finding} {t t' : RowTable Finding} → 1 ≤ n → n < length m.sectors → length b ≡ 512 → Room c m →
     Checked c m m₁ n old t → Reads u m₁ m₂ n b b' (Ok tt) →
@@ -122,3 +128,49 @@ checked_more {c = c} {m = m} {m₁ = m₁} {m₂ = m₂} {m₃ = m₃} {n = n} {
       accepted = λ _. subst (λ (y : Meaning). MayAccept y.condition) p.same z.0;
       holds = subst (λ (xs : List Finding). Holds xs old t') e (o.holds (rows_below (finding_at c s) a) old few p.holds);
     }
+
+-- THE CALL
+
+all_findings : (c : Layout) (s : Sectors) → findings c s ≡ rows_below (finding_at c s) (entries_listed c)
+unfolding findings
+all_findings c s = refl
+
+pub checked : (t : Faults) (m m' : Meaning) (q : Memory) {c : Layout} {n k : ℕ} {old : List Finding} {r : RowTable Finding} → c ≡ layout_of q.size → n ≡ c.area → k ≡ r.total →
+    (q.size ≤ length m.sectors → Checked c m m' n old r) → Performs t (Checks old r) check m m' q q (Ok k)
+checked t m m' q {c = c} {n = n} {old = old} {r = r} e f g x =
+    record {
+      ends = λ h.
+          let y = x h in
+          let s = m.sectors in
+          let l = layout_of q.size in
+          let a : n ≡ l.area = f ∙ ap (λ (z : Layout). z.area) e in
+          let w : rows_below (finding_at c s) (16 * (n - 1)) ≡ findings l s =
+          ap₂ (λ (z : Layout) (j : ℕ). rows_below (finding_at z s) (16 * (j - 1))) e a ∙ sym (all_findings l s) in
+          let z : Holds (findings l s) old r = subst (λ (xs : List Finding). Holds xs old r) w y.holds in
+          reading_ends l (Checks old r) (faults (findings l s)) q
+          (record { rows = findings l s; answer = refl; total = g ∙ z.total; holds = z })
+          (record { same = y.same; was_read = λ i. y.accepted (omega (arith, a, i)) });
+    }
+
+pub check_refused : (t : Faults) (m m' : Meaning) (q : Memory) {A : Type 0} (V : A → Answer → Type 0) {f : Fault} → (q.size ≤ length m.sectors → (k : ℕ) × ReadRefused t m m' k f) → Performs t V check m m' q q (Err (Device f))
+check_refused t m m' q V x =
+    record { ends = λ h. reading_refused t (card_layout q) (faults (findings (card_layout q) m.sectors)) q (x h).1 }
+
+pub check_first : (m m' : Meaning) (q : Memory) {c : Layout} {n : ℕ} {old : List Finding} {r : RowTable Finding} → c ≡ layout_of q.size → n < c.area → Checked c m m' n old r →
+    HoldsFirst (findings (card_layout q) m.sectors) old r
+check_first m m' q {c = c} {n = n} {old = old} {r = r} e h x =
+    let w : findings (layout_of q.size) m.sectors ≡ rows_below (finding_at c m.sectors) (entries_listed c) =
+    ap (λ (z : Layout). findings z m.sectors) (sym e) ∙ all_findings c m.sectors in
+    holds_first (finding_at c m.sectors) (16 * (n - 1)) (entries_listed c) (omega arith) w x.holds
+
+-- the read of a lower sector is refused
+pub lower_refused : {t u v : Faults} {c : Layout} {m m₁ m₂ m' : Meaning} {n : ℕ} {b b' : List ℕ} {old : List Finding} {r : RowTable Finding} {f : Fault} → Within v t → 1 ≤ n → n < length m.sectors → length b ≡ 512 → Room c m →
+    Checked c m m₁ n old r → Reads u m₁ m₂ n b b' (Ok tt) →
+    (Room c m₂ → (place_of (16 * (n - 1))).offset ≡ 0 → b' ≡ directory_sector m₂.sectors (16 * (n - 1)) → (k : ℕ) × ReadRefused v m₂ m' k f) → (k : ℕ) × ReadRefused t m m' k f
+lower_refused {m₂ = m₂} {n = n} {b' = b'} g l h w r p x y =
+    let a = 16 * (n - 1) in
+    let z = x.otherwise w (subst (λ (y : Meaning). n < length y.sectors) (sym p.same) h) in
+    let i : 1 + a / 16 ≡ n = omega arith in
+    let first : b' ≡ directory_sector m₂.sectors a = z.1 ∙ ap (λ (y : Meaning). get_or y.sectors n []) (sym z.2) ∙ ap (λ (j : ℕ). get_or m₂.sectors j []) (sym i) in
+    let f = y (room_same (z.2 ∙ p.same) r) (omega arith) first in
+    (f.0, refused_from g (z.2 ∙ p.same) f.1)

@@ -33,7 +33,7 @@ rows_more f k =
 pub few_rows : {R : Type 0} (f : ℕ → Option R) (k : ℕ) → length (rows_below f k) ≤ k
 few_rows f k = omega (arith, length-kept (counted_up f 0 k), length-counted f 0 k)
 
-rows_rest : {R : Type 0} (f : ℕ → Option R) (k n : ℕ) → k ≤ n → rows_below f n ≡ rows_below f k ++ kept (counted_up f (0 + k) (n - k))
+pub rows_rest : {R : Type 0} (f : ℕ → Option R) (k n : ℕ) → k ≤ n → rows_below f n ≡ rows_below f k ++ kept (counted_up f (0 + k) (n - k))
 rows_rest f k n h =
     let e : n ≡ k + (n - k) = omega arith in
     ap (rows_below f) e ∙ ap kept (counted_split f 0 k (n - k)) ∙ kept_append (counted_up f 0 k) (counted_up f (0 + k) (n - k))

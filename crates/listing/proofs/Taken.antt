@@ -1,5 +1,5 @@
 -- Names that are live in a lower slot.
-use Rattle.std.proofs.Common.{◌≡◌, ℕ, suc, ◌+◌, ◌-◌, ◌*◌, ◌/◌, ◌%◌, ◌<◌, ◌≤◌, min, Bool, true, false, ◌&&◌, ◌||◌, ltb, ◌⊎◌, ◌≢◌, List, [], length, get_or, replicate, set, take, drop, is_some, Some, None, Option, sym, refl, ap, ◌∙◌, ap₂, inl, inr, arith}
+use Rattle.std.proofs.Common.{◌≡◌, ℕ, ◌+◌, ◌<◌, ◌≤◌, min, Bool, true, false, ◌&&◌, ◌||◌, ltb, ◌⊎◌, ◌≢◌, List, [], length, get_or, replicate, set, drop, is_some, Some, None, Option, sym, refl, ap, ◌∙◌, ap₂, inl, inr, arith}
 use Rattle.std.proofs.lemmas.Bool.{cases_eq, cases_lt, lt-ltb, le-ltb}
 use Rattle.std.proofs.lemmas.List.{take-take, take_all, length-map, get_or-replicate, get_or-set_same, get_or-set_other}
 use Rattle.std.specs.Bool.{then_some}
@@ -69,7 +69,7 @@ marked_same old p k marks e f = λ i j.
       | inl q ↦
           f i j
           ∙ ap (λ (b : Bool). get_or old i false || b)
-              (ap (λ (b : Bool). b && p i) (le-ltb i k (omega arith)) ∙ sym (ap₂ ◌&&◌ (lt-ltb i (k + 1) (omega arith)) (ap p q ∙ e)))
+          (ap (λ (b : Bool). b && p i) (le-ltb i k (omega arith)) ∙ sym (ap₂ ◌&&◌ (lt-ltb i (k + 1) (omega arith)) (ap p q ∙ e)))
       | inr n ↦ f i j ∙ ap (λ (b : Bool). get_or old i false || (b && p i)) (sym (ltb_more i k n))
     ]
 
@@ -102,25 +102,27 @@ marked_none c s a b = record {
 pub marked_slot : (c : Layout) (s : Sectors) (a : ℕ) (b : List ℕ) (k : ℕ) {x : List ℕ} {marks : List Bool} (marks' : List Bool) → k < c.slots → x ≡ directory_sector s k →
     (((y : Sectors) (i : ℕ) → i < 16 → get_or marks' i false ≡ (get_or marks i false || (ltb k (a + i) && named (entry_at b (a + i)).name (as_slot (state_of c k (entry_at x k)) (job_in (entry_at x k) y)))))) →
     Marked c s a b k marks → Marked c s a b (k + 1) marks'
-marked_slot c s a b k {x = x} {marks = marks} marks' h d f m = record { each = λ i j.
-    let ps = places c s in
-    let n = (entry_at b (a + i)).name in
-    let o = read_off c s k {e = entry_at x k} {x = state_of c k (entry_at x k)} h d refl refl in
-    let g : get_or marks' i false ≡ (get_or marks i false || (ltb k (a + i) && named n (decoded (place_in ps k)))) =
-    f (place_in ps k).sectors i j ∙ ap (λ (y : Slot). get_or marks i false || (ltb k (a + i) && named n y)) (sym o.slot) in
-    elim (cases_lt k (a + i)) [
-      | inl l ↦
-          let p : min k (a + i) ≡ k = omega arith in
-          let q : k + 1 ≡ min (k + 1) (a + i) = omega arith in
-          g
-          ∙ ap₂ (λ (u v : Bool). u || (v && named n (decoded (place_in ps k)))) (m.each i j ∙ ap (taken_below (slots_in ps) n) p) (lt-ltb k (a + i) l)
-          ∙ sym (taken_more ps n k (omega (arith, length-places c s))) ∙ ap (taken_below (slots_in ps) n) q
-      | inr l ↦
-          let p : min k (a + i) ≡ min (k + 1) (a + i) = omega arith in
-          g
-          ∙ ap (λ (v : Bool). get_or marks i false || (v && named n (decoded (place_in ps k)))) (le-ltb k (a + i) l)
-          ∙ or_false (get_or marks i false) ∙ m.each i j ∙ ap (taken_below (slots_in ps) n) p
-    ] }
+marked_slot c s a b k {x = x} {marks = marks} marks' h d f m = record {
+  each = λ i j.
+      let ps = places c s in
+      let n = (entry_at b (a + i)).name in
+      let o = read_off c s k {e = entry_at x k} {x = state_of c k (entry_at x k)} h d refl refl in
+      let g : get_or marks' i false ≡ (get_or marks i false || (ltb k (a + i) && named n (decoded (place_in ps k)))) =
+      f (place_in ps k).sectors i j ∙ ap (λ (y : Slot). get_or marks i false || (ltb k (a + i) && named n y)) (sym o.slot) in
+      elim (cases_lt k (a + i)) [
+        | inl l ↦
+            let p : min k (a + i) ≡ k = omega arith in
+            let q : k + 1 ≡ min (k + 1) (a + i) = omega arith in
+            g
+            ∙ ap₂ (λ (u v : Bool). u || (v && named n (decoded (place_in ps k)))) (m.each i j ∙ ap (taken_below (slots_in ps) n) p) (lt-ltb k (a + i) l)
+            ∙ sym (taken_more ps n k (omega (arith, length-places c s))) ∙ ap (taken_below (slots_in ps) n) q
+        | inr l ↦
+            let p : min k (a + i) ≡ min (k + 1) (a + i) = omega arith in
+            g
+            ∙ ap (λ (v : Bool). get_or marks i false || (v && named n (decoded (place_in ps k)))) (le-ltb k (a + i) l)
+            ∙ or_false (get_or marks i false) ∙ m.each i j ∙ ap (taken_below (slots_in ps) n) p
+      ];
+}
   where
     or_false : (b : Bool) → (b || false) ≡ b
     or_false true = refl
@@ -135,14 +137,16 @@ slots_long c s = length-map (places c s) decoded ∙ length-places c s
 
 -- the lower sectors are done: the entries' own follows
 pub marked_lower : (c : Layout) (s : Sectors) (a : ℕ) (b : List ℕ) (k : ℕ) {marks : List Bool} → k ≤ a → min a c.slots ≤ k → Marked c s a b k marks → Marked c s a b a marks
-marked_lower c s a b k h l m = record { each = λ i j.
-    let xs = slots_in (places c s) in
-    let n = (entry_at b (a + i)).name in
-    m.each i j
-    ∙ elim (cases_lt k a) [
-      | inl q ↦ past xs n (min k (a + i)) (min a (a + i)) (omega (arith, slots_long c s)) (omega (arith, slots_long c s))
-      | inr q ↦ let e : k ≡ a = omega arith in ap (λ (y : ℕ). taken_below xs n (min y (a + i))) e
-    ] }
+marked_lower c s a b k h l m = record {
+  each = λ i j.
+      let xs = slots_in (places c s) in
+      let n = (entry_at b (a + i)).name in
+      m.each i j
+      ∙ elim (cases_lt k a) [
+        | inl q ↦ past xs n (min k (a + i)) (min a (a + i)) (omega (arith, slots_long c s)) (omega (arith, slots_long c s))
+        | inr q ↦ let e : k ≡ a = omega arith in ap (λ (y : ℕ). taken_below xs n (min y (a + i))) e
+      ];
+}
 
 -- all slots that may lie below one of the entries are done
 pub marked_all : (c : Layout) (s : Sectors) (a : ℕ) (b : List ℕ) (k : ℕ) {marks : List Bool} → (a + 16 ≤ k) ⊎ (c.slots ≤ k) → Marked c s a b k marks →
@@ -153,9 +157,9 @@ marked_all c s a b k h m = λ i j.
     m.each i j
     ∙ elim (cases_lt k (a + i)) [
       | inl q ↦ elim h [
-          | inl o ↦ absurd (omega arith)
-          | inr o ↦ past xs n (min k (a + i)) (a + i) (omega (arith, slots_long c s)) (omega (arith, slots_long c s))
-        ]
+        | inl o ↦ absurd (omega arith)
+        | inr o ↦ past xs n (min k (a + i)) (a + i) (omega (arith, slots_long c s)) (omega (arith, slots_long c s))
+      ]
       | inr q ↦ let e : min k (a + i) ≡ a + i = omega arith in ap (taken_below xs n) e
     ]
 

@@ -33,10 +33,7 @@ fn offer_sector<'a>(
     for i in 0..16u16 {
         let slot = first + i;
         let entry = entry_in(sector, slot);
-        offer(
-            rows,
-            finding(layout, slot, &entry, taken[usize::from(i)]),
-        );
+        offer(rows, finding(layout, slot, &entry, taken[usize::from(i)]));
     }
 }
 

@@ -16,12 +16,7 @@ fn is_known(kind: u8) -> bool
 
 // The first fault of a slot's entry, if it has one. `taken`: its name is live in a lower slot already.
 #[tactic(auto, unfolding(plans::specs::Rows::fault_in))]
-fn fault_in(
-    layout: &Layout,
-    slot: u16,
-    entry: &Entry,
-    taken: bool,
-) -> Option<FindingKind>
+fn fault_in(layout: &Layout, slot: u16, entry: &Entry, taken: bool) -> Option<FindingKind>
     ensures { result ≡ fault_in layout.now.slots taken slot (block_of layout.now slot) entry.now }
 {
     let inside = slot < layout.slots;

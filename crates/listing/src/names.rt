@@ -64,6 +64,7 @@ pub(crate) fn taken_names<D: SectorDevice>(
     ensures keeps { KeepsFaults D.SectorDevice device.old device.new }
     ensures taken { OfCard D.SectorDevice layout.now device.old device.new (λ t m m'. (place_of first).offset ≡ 0 → here.now ≡ directory_sector m.sectors first → TellsTaken t layout.now m m' first here.now result) }
 {
+    // In a variable: behind a reference it is not known to fit its type.
     let slots = layout.slots;
     let mut taken = [false; 16];
     let mut sector = zero_sector();

@@ -1,4 +1,4 @@
-use Rattle.std.proofs.Common.{◌≡◌, ℕ, ◌+◌, false, get_or, refl, ap, ◌∙◌, subst, ap₂, rules, arith}
+use Rattle.std.proofs.Common.{◌≡◌, ℕ, ◌+◌, false, get_or, refl, ◌∙◌, subst, ap₂, rules, arith}
 use Rattle.entries.specs.declared.entry.Entry.{Entry}
 use Rattle.layout.specs.Sizes.{block_of}
 use Rattle.plans.specs.Rows.{finding, fault_in}
