@@ -6,6 +6,9 @@
 pub mod mounting;
 // Erasing, renaming and bringing back.
 pub mod erasing;
+// Wiping, and the end of wipes that were cut off.
+pub mod wiping;
 
-pub use erasing::erase;
+pub use erasing::{erase, rename, undelete};
 pub use mounting::mount;
+pub use wiping::{sweep, wipe};

@@ -67,10 +67,8 @@ wipe_idle n = unless_keeps Idle idle_declined idle_refused (lawful_name n) Name 
 undelete_idle : (k l : ℕ) → Idle (undelete_plan [] unmounted k l)
 unfolding undelete_plan
 undelete_idle k l =
-    let p : Place = place_in [] k in
     unless_keeps Idle idle_declined idle_refused (name_char l) Name _ λ _.
-    cond_keeps Idle idle_declined idle_refused (ltb k 0 && (is_erased (decoded p) && is_live (restored_slot p l))) _ (refuse NotErased)
-    (λ t. let z = ltb-true k 0 (and_parts (ltb k 0) (is_erased (decoded p) && is_live (restored_slot p l)) t).0 in absurd (omega arith)) (λ _. refl)
+    unless_keeps Idle idle_declined idle_refused (ltb k 0) NotErased _ λ t. let z = ltb-true k 0 t in absurd (omega arith)
 
 load_idle : (n : List ℕ) (r : ℕ) → Idle (load_plan [] unmounted n r)
 unfolding load_plan

@@ -125,11 +125,11 @@ mounted_undeletes m st st' h k l =
     let d : (r : Refusal) → P (decline r) = λ r e. absurd e in
     let f : (r : Refusal) → P (refuse r) = λ r e. absurd e in
     unless_keeps P d f (name_char l) Name _ λ _.
-    cond_keeps P d f (ltb k (length ps) && (is_erased (decoded p) && is_live (restored_slot p l))) _ (refuse NotErased)
+    unless_keeps P d f (ltb k (length ps)) NotErased _ λ a.
+    cond_keeps P d f (is_erased (decoded p) && is_live (restored_slot p l)) _ (refuse NotErased)
     (λ t.
-    let a = and_parts (ltb k (length ps)) _ t in
-    let b = and_parts (is_erased (decoded p)) _ a.1 in
-    let i : k < length ps = ltb-true k (length ps) a.0 in
+    let b = and_parts (is_erased (decoded p)) _ t in
+    let i : k < length ps = ltb-true k (length ps) a in
     let s = seen_erased (get_or m.slots k empty) (ap is_erased (sym (slot_shown h.agrees k i)) ∙ b.0) in
     vacant_keeps P d f (lowest (named (restored p l).name) (slots_in ps)) _ λ v e. (s.0, s.1, omega (arith, same_length h.agrees)))
     (λ _. f NotErased)
@@ -137,13 +137,11 @@ mounted_undeletes m st st' h k l =
 unmounted_undeletes : (m : Model) (st st' : State) (k l : ℕ) → Gives st st' (ErasedThere m k) ok (undelete_plan [] st.memory k l)
 unfolding undelete_plan
 unmounted_undeletes m st st' k l =
-    let p : Place = place_in [] k in
     let P : Plan → Type 0 = Gives st st' (ErasedThere m k) ok in
     let d : (r : Refusal) → P (decline r) = λ r e. absurd e in
     let f : (r : Refusal) → P (refuse r) = λ r e. absurd e in
     unless_keeps P d f (name_char l) Name _ λ _.
-    cond_keeps P d f (ltb k 0 && (is_erased (decoded p) && is_live (restored_slot p l))) _ (refuse NotErased)
-    (λ t. let z = ltb-true k 0 (and_parts (ltb k 0) (is_erased (decoded p) && is_live (restored_slot p l)) t).0 in absurd (omega arith)) (λ _. f NotErased)
+    unless_keeps P d f (ltb k 0) NotErased _ λ t. let z = ltb-true k 0 t in absurd (omega arith)
 
 undeletes_by : (size : ℕ) (m : Model) (st st' : State) → Holds size m st.device.sectors st.memory → (b : Bool) → m.mounted ≡ b → (k l : ℕ) →
     Gives st st' (ErasedThere m k) ok (plan st.device.sectors st.memory (undelete k l))

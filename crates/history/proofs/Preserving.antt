@@ -332,13 +332,13 @@ module _ (m : Model) (s : Sectors) (q : Memory) (h : Holds q.size m s q) (e : m.
       let f : (r : Refusal) → P (refuse r) = refused (undelete k l) in
       let p : Place = place_in ps k in
       unless_keeps P d f (name_char l) Name _ λ nl.
-      cond_keeps P d f (ltb k (length ps) && (is_erased (decoded p) && is_live (restored_slot p l))) _ (refuse NotErased)
+      unless_keeps P d f (ltb k (length ps)) NotErased _ λ i.
+      cond_keeps P d f (is_erased (decoded p) && is_live (restored_slot p l)) _ (refuse NotErased)
       (λ t.
-      let a = and_parts (ltb k (length ps)) _ t in
-      let b = and_parts (is_erased (decoded p)) _ a.1 in
+      let b = and_parts (is_erased (decoded p)) _ t in
       vacant_keeps P d f (lowest (named (restored p l).name) (slots_in ps)) _ λ v.
       carried_preserved m s q q (undelete k l) _ h e refl
-      (undelete_carried (layout_of q.size) m ps q.job laid agreed k l (name_bound l nl) (ltb-true k (length ps) a.0) b.0 b.1 v))
+      (undelete_carried (layout_of q.size) m ps q.job laid agreed k l (name_bound l nl) (ltb-true k (length ps) i) b.0 b.1 v))
       (λ _. f NotErased)
 
   sweep-preserves : Kept sweep (plan s q sweep)
@@ -520,9 +520,7 @@ module _ (size : ℕ) (m : Model) (s : Sectors) (h : Holds size m s unmounted) (
       let d = declines (undelete k l) in
       let f = stays-refused (undelete k l) in
       unless_keeps P d f (name_char l) Name _ λ _.
-      let p : Place = place_in [] k in
-      cond_keeps P d f (ltb k 0 && (is_erased (decoded p) && is_live (restored_slot p l))) _ (refuse NotErased)
-      (λ t. let z = ltb-true k 0 (and_parts (ltb k 0) (is_erased (decoded p) && is_live (restored_slot p l)) t).0 in absurd (omega arith)) (λ _. f NotErased)
+      unless_keeps P d f (ltb k 0) NotErased _ λ t. let z = ltb-true k 0 t in absurd (omega arith)
 
   load-stays : (n : List ℕ) (r : ℕ) → Stays (load n r) (load_plan [] unmounted n r)
   unfolding load_plan

@@ -20,5 +20,5 @@ pub use disk_ids::DiskId;
 pub use extents::{extent, job_size};
 pub use figures::figures_hold;
 pub use label::Label;
-pub use names::Name;
+pub use names::{Name, is_name_byte};
 pub use sizes::{EntryPlace, Layout, entry_place};

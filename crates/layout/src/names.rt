@@ -43,6 +43,13 @@ fn is_name_char(c: char) -> bool
     }
 }
 
+// Whether a byte may stand in a name.
+pub fn is_name_byte(byte: u8) -> bool
+    ensures { result ≡ name_char byte }
+{
+    is_name_char(char::from(byte))
+}
+
 // By the project's rule a loop over the bytes tests each.
 fn is_lawful(name: &[u8]) -> bool
     ensures { result ≡ lawful_name name.now }
@@ -51,7 +58,7 @@ fn is_lawful(name: &[u8]) -> bool
         return false;
     }
     for b in name {
-        if !is_name_char(char::from(*b)) {
+        if !is_name_byte(*b) {
             return false;
         }
     }

@@ -78,7 +78,7 @@ finds_as P P' t m m' q (Err r) e f = λ g w.
     subst (λ (p : Plan). RefusedBy t (card_layout q) p r m m' q q) (sym (e g)) (f g w)
 
 -- once the name is lawful, and once it is not that of the open job
-padded_ok : (n : List ℕ) {y : List ℕ} (b : Bool) → lawful_name n ≡ b → cond {A = Result (List ℕ) Refusal} b (Ok (padded n)) (Err Name) ≡ Ok y → (lawful_name n ≡ true) × (y ≡ padded n)
+pub padded_ok : (n : List ℕ) {y : List ℕ} (b : Bool) → lawful_name n ≡ b → cond {A = Result (List ℕ) Refusal} b (Ok (padded n)) (Err Name) ≡ Ok y → (lawful_name n ≡ true) × (y ≡ padded n)
 padded_ok n true e f = (e, cc)
 padded_ok n false e f = cc
 

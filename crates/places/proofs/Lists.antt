@@ -1,5 +1,5 @@
 -- Lists: an entry spliced into a sector, and a list given by a function of the place.
-use Rattle.std.proofs.Common.{◌≡◌, ℕ, zero, suc, ◌+◌, ◌<◌, ◌≤◌, ◌≢◌, List, ◌∷◌, ◌++◌, length, get_or, take, drop, set, refl, ap, ◌∙◌, ap₂, add-zero, arith}
+use Rattle.std.proofs.Common.{◌≡◌, ℕ, zero, suc, ◌+◌, ◌<◌, ◌≤◌, ◌≢◌, List, [], ◌∷◌, ◌++◌, length, get_or, take, drop, set, refl, ap, ◌∙◌, ap₂, add-zero, arith}
 use Rattle.std.proofs.lemmas.List.{length-append, length-drop, length-take-le, take-append-le, take-take, drop-take, take_at, drop_at}
 use Rattle.std.proofs.lemmas.Slice.{drop-put_mid}
 use Rattle.places.specs.SlotWrites.{spliced}
@@ -46,3 +46,17 @@ pub get_or-counted : {X : Type 0} (f : ℕ → X) (i n k : ℕ) (d : X) → k < 
 get_or-counted f i zero k d l = absurd (omega arith)
 get_or-counted f i (suc n) zero d l = rw add-zero
 get_or-counted f i (suc n) (suc k) d l = get_or-counted f (suc i) n k d (omega arith) ∙ ap f (omega arith)
+
+-- a list counted up, in two parts, and one further
+pub counted_split : {X : Type 0} (f : ℕ → X) (i j n : ℕ) → counted_up f i (j + n) ≡ counted_up f i j ++ counted_up f (i + j) n
+counted_split f i zero n =
+    let x : 0 + n ≡ n = omega arith in
+    let y : i ≡ i + 0 = omega arith in
+    ap₂ (counted_up f) y x
+counted_split f i (suc j) n =
+    let x : suc j + n ≡ suc (j + n) = omega arith in
+    let y : suc i + j ≡ i + suc j = omega arith in
+    ap (counted_up f i) x ∙ ap (λ t. f i ∷ t) (counted_split f (suc i) j n ∙ ap (λ (a : ℕ). counted_up f (suc i) j ++ counted_up f a n) y)
+
+pub counted_more : {X : Type 0} (f : ℕ → X) (i n : ℕ) → counted_up f i (n + 1) ≡ counted_up f i n ++ (f (i + n) ∷ [])
+counted_more f i n = counted_split f i n 1

@@ -63,6 +63,13 @@ pub cond_first : (b : Bool) (r : Refusal) {P : Type 0} {p : Plan} {cs : List Cas
 cond_first true r f g h = passes (f refl) (h refl)
 cond_first false r f g h = refuses (g refl)
 
+-- the same of two tests under one case, the first of which needs no read
+pub two_first : (b b' : Bool) (r : Refusal) {P : Type 0} {p : Plan} {cs : List Case} {n : ℕ} → (b ≡ true → b' ≡ true → Not P) → (b ≡ false → P) → (b' ≡ false → P) →
+    (b ≡ true → b' ≡ true → AsListed p cs n) → AsListed (unless b r (cond b' p (refuse r))) (case (refusal_number r) P ∷ cs) n
+two_first true true r f g g' h = passes (f refl refl) (h refl refl)
+two_first true false r f g g' h = refuses (g' refl)
+two_first false b' r f g g' h = declines (g refl)
+
 pub found_first : (o : Option ℕ) (r : Refusal) {P : Type 0} {f : ℕ → Plan} {cs : List Case} {n : ℕ} →
     ((k : ℕ) → o ≡ Some k → Not P) → (o ≡ None → P) →
     ((k : ℕ) → o ≡ Some k → AsListed (f k) cs n) → AsListed (found o r f) (case (refusal_number r) P ∷ cs) n

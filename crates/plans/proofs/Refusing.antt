@@ -1,6 +1,6 @@
 -- Call by call: the plan refuses as its cases are listed.
-use Rattle.std.proofs.Common.{◌≡◌, ℕ, zero, suc, ◌+◌, ◌<◌, Bool, true, false, cond, eqb, leb, ◌≢◌, List, [], ◌∷◌, length, get_or, take, drop, Some, None, Option, sym, refl, ap, ◌∙◌, subst, arith}
-use Rattle.std.proofs.lemmas.Bool.{both_ways, leb-true, leb-false, eqb-true, eqb-false, true≢false, cond_both}
+use Rattle.std.proofs.Common.{◌≡◌, ℕ, zero, suc, ◌+◌, ◌<◌, Bool, true, false, cond, ◌&&◌, eqb, ltb, leb, ◌≢◌, List, [], ◌∷◌, length, get_or, take, drop, Some, None, Option, sym, refl, ap, ◌∙◌, subst, arith}
+use Rattle.std.proofs.lemmas.Bool.{both_ways, and_parts, and_from, leb-true, leb-false, eqb-true, eqb-false, true≢false, cond_both}
 use Rattle.device.specs.Meaning.{Sectors}
 use Rattle.layout.specs.Label.{Field, field, checks_of, first_failing, bad_field}
 use Rattle.layout.specs.Names.{padded}
@@ -8,14 +8,14 @@ use Rattle.layout.specs.Words.{double_at}
 use Rattle.refusals.specs.declared.Refusal.TheVariants.{Name, FileType, TooLong, NoJob, NotSequential, NotErased, NoSlot, OutOfBounds}
 use Rattle.places.specs.Places.{Place}
 use Rattle.places.specs.SlotWrites.{SlotWrite}
-use Rattle.plans.specs.Slots.{Job, decoded, slots_in, usable, named, job_of, lowest}
+use Rattle.plans.specs.Slots.{Job, decoded, slots_in, usable, named, is_live, is_erased, job_of, lowest}
 use Rattle.plans.specs.Memory.{OpenJob, Memory, job_length}
 use Rattle.plans.specs.Calls.{Call, mount, save, open', put, commit, finish, rename, erase, wipe, sweep, undelete, load, read, list, same, check, Answer, loaded, bytes}
-use Rattle.plans.specs.Plans.{place_in, slot_named, job_saved, mount_by, put_by, finish_by, sectors_full, open_at, reading, mount_plan, save_plan, open_plan, put_plan, commit_plan, rename_plan, erase_plan, wipe_plan, undelete_plan, load_plan, read_plan, same_plan, restored, card_places, plan}
-use Rattle.plans.specs.Cases.{Not, IsLawfulName, HasJob, NamedJob, UsableAt, FieldFails, case, cases_on, cases, RefusesAsListed}
+use Rattle.plans.specs.Plans.{place_in, slot_named, job_saved, mount_by, put_by, finish_by, sectors_full, open_at, reading, mount_plan, save_plan, open_plan, put_plan, commit_plan, rename_plan, erase_plan, wipe_plan, undelete_plan, load_plan, read_plan, same_plan, restored, restored_slot, card_places, plan}
+use Rattle.plans.specs.Cases.{Not, IsLawfulName, HasJob, NamedJob, Restorable, UsableAt, FieldFails, case, cases_on, cases, RefusesAsListed}
 use Rattle.std.proofs.lemmas.Option.{same_Some}
 use Rattle.plans.proofs.Named.{named_found, named_once, named_has, live_found, live_missing, has_found, has_missing, usable_found, usable_missing}
-use Rattle.plans.proofs.Firsts.{AsListed, goes, tells, passes, refuses, declines, unless_first, unless_decided, cond_first, found_first, two_found_first, vacant_first, all_shut_first, named_shut_first, held_open_first}
+use Rattle.plans.proofs.Firsts.{AsListed, two_first, goes, tells, passes, refuses, declines, unless_first, unless_decided, cond_first, found_first, two_found_first, vacant_first, all_shut_first, named_shut_first, held_open_first}
 use Rattle.plans.proofs.Words.{name_byte_decides, lawful_name_decides, two_lawful_decide, known_type_decides}
 use Rattle.plans.proofs.Restoring.{restores, restorable_found, restorable_passes, restored_name}
 
@@ -179,14 +179,18 @@ unfolding undelete_plan
 undelete_listed s ps q k letter n =
     let p = place_in ps k in
     let name = (restored p letter).name in
+    let back = is_erased (decoded p) && is_live (restored_slot p letter) in
+    let both : ltb k (length ps) ≡ true → back ≡ true → restores ps k letter ≡ true = λ e f. and_from (ltb k (length ps)) back e f in
+    let parts : (j : Job) → Restorable ps k letter j → (ltb k (length ps) ≡ true) × (back ≡ true) = λ j r. and_parts (ltb k (length ps)) back (restorable_passes ps k letter j r) in
     unless_decided Name (name_byte_decides letter)
-    (cond_first (restores ps k letter) NotErased
-    (λ e f. let r = restorable_found ps k letter e in f r.0 r.1)
-    (λ e j r. both_ways (restores ps k letter) e (restorable_passes ps k letter j r)) λ e.
+    (two_first (ltb k (length ps)) back NotErased
+    (λ e f g. let r = restorable_found ps k letter (both e f) in g r.0 r.1)
+    (λ e j r. both_ways (ltb k (length ps)) e (parts j r).0)
+    (λ e j r. both_ways back e (parts j r).1) λ e g.
     vacant_first (lowest (named name) (slots_in ps))
     (λ f x. live_missing ps name f x.2.0 x.2.1 x.2.2 (x.2.3 ∙ restored_name p letter x.0 x.1.1))
     (λ i f.
-    let r = restorable_found ps k letter e in
+    let r = restorable_found ps k letter (both e g) in
     let d = live_found ps name i f in
     (r.0, r.1, (i, d.0, d.1, d.2 ∙ sym (restored_name p letter r.0 r.1.1))))
     (λ _. goes))

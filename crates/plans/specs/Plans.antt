@@ -267,13 +267,15 @@ restored p letter = first_set (entry_of p) letter
 abbrev pub restored_slot : Place → ℕ → Slot
 restored_slot p letter = decoded (acted p (enter (entry_bytes (restored p letter))))
 
+-- a slot past the last is refused without a read
 unfoldable pub undelete_plan : List Place → Memory → (k letter : ℕ) → Plan
 undelete_plan ps q k letter =
     let p = place_in ps k in
     unless (name_char letter) Name
-    (cond (nat_lt k (length ps) && (is_erased (decoded p) && is_live (restored_slot p letter)))
+    (unless (nat_lt k (length ps)) NotErased
+    (cond (is_erased (decoded p) && is_live (restored_slot p letter))
     (vacant (lowest (named (restored p letter).name) (slots_in ps)) (go at_first (entering k (restored p letter) ∷ []) done q))
-    (refuse NotErased))
+    (refuse NotErased)))
 
 -- the live job of a name, where its buffer or place is within bounds
 abbrev pub reading : List Place → Memory → (name : List ℕ) → (Job → Bool) → (Job → Answer) → Plan

@@ -15,7 +15,7 @@ use Rattle.runs.proofs.Runs.{length-zeroing, get_or-zeroing, take-zeroing}
 use Rattle.std.proofs.Math.Seq.{take-append-add}
 use Rattle.places.specs.Places.{counted_up}
 use Rattle.places.specs.SlotWrites.{SlotWrite, all_written}
-use Rattle.places.proofs.Lists.{get_or-counted}
+use Rattle.places.proofs.Lists.{get_or-counted, counted_split, counted_more}
 use Rattle.plans.specs.Plans.{Reads, never, filling, chunk, zero_chunk}
 use Rattle.plans.proofs.Blocks.{write_at, length-filling, take-filling, length-chunk}
 use Rattle.volume.specs.Directory.{Room}
@@ -25,17 +25,6 @@ use Rattle.volume.proofs.Entering.{writes_at, one_runs}
 
 -- THE WRITES
 
--- a list counted up, in two parts
-counted_split : {X : Type 0} (g : ℕ → X) (a j r : ℕ) → counted_up g a (j + r) ≡ counted_up g a j ++ counted_up g (a + j) r
-counted_split g a zero r =
-    let x : 0 + r ≡ r = omega arith in
-    let y : a ≡ a + 0 = omega arith in
-    ap₂ (λ (i n : ℕ). counted_up g i n) y x
-counted_split g a (suc j) r =
-    let x : suc j + r ≡ suc (j + r) = omega arith in
-    let y : suc a + j ≡ a + suc j = omega arith in
-    ap (counted_up g a) x ∙ ap (λ t. g a ∷ t) (counted_split g (suc a) j r ∙ ap (λ (i : ℕ). counted_up g (suc a) j ++ counted_up g i r) y)
-
 pub get_or-filling : (k f : ℕ) (x : ℕ → List ℕ) (n i : ℕ) → i < n → get_or (filling k f x n) i no_write ≡ write_at k f x i
 unfolding filling
 get_or-filling k f x n i h = get_or-counted (write_at k f x) 0 n i no_write h ∙ ap (write_at k f x) (zero-add i)
@@ -43,7 +32,7 @@ get_or-filling k f x n i h = get_or-counted (write_at k f x) 0 n i no_write h �
 pub filling_more : (k f : ℕ) (x : ℕ → List ℕ) (i : ℕ) → filling k f x (i + 1) ≡ filling k f x i ++ (write_at k f x i ∷ [])
 unfolding filling
 filling_more k f x i =
-    counted_split (write_at k f x) 0 i 1 ∙ ap (λ (j : ℕ). counted_up (write_at k f x) 0 i ++ (write_at k f x j ∷ [])) (zero-add i)
+    counted_more (write_at k f x) 0 i ∙ ap (λ (j : ℕ). counted_up (write_at k f x) 0 i ++ (write_at k f x j ∷ [])) (zero-add i)
 
 pub filling_rest : (k f : ℕ) (x : ℕ → List ℕ) (i n : ℕ) → i ≤ n → filling k f x n ≡ filling k f x i ++ counted_up (write_at k f x) (0 + i) (n - i)
 unfolding filling

@@ -101,7 +101,7 @@ lowest_first p (x ∷ ys) zs k e = at (p x) (lowest p ys) (lowest_first p ys zs)
 abbrev pub lowest_below : (Slot → Bool) → List Place → ℕ → Option ℕ
 lowest_below p ps k = lowest p (take k (slots_in ps))
 
-below_more : (p : Slot → Bool) (ps : List Place) (k : ℕ) → k < length ps → lowest_below p ps (k + 1) ≡ option_or (lowest_below p ps k) (then_some (p (decoded (place_in ps k))) k)
+pub below_more : (p : Slot → Bool) (ps : List Place) (k : ℕ) → k < length ps → lowest_below p ps (k + 1) ≡ option_or (lowest_below p ps k) (then_some (p (decoded (place_in ps k))) k)
 below_more p ps k h =
     let n : k < length (slots_in ps) = rw length-map h in
     let l : length (take k (slots_in ps)) ≡ k = length-take-le k (slots_in ps) (omega arith) in

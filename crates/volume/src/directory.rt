@@ -32,7 +32,7 @@ pub fn turn_to<D: SectorDevice>(
 }
 
 // A slot's entry in its directory sector.
-pub(crate) fn entry_in(sector: &[u8; 512], slot: u16) -> Entry
+pub fn entry_in(sector: &[u8; 512], slot: u16) -> Entry
     ensures { result ≡ entry_in (part sector.now (place_of slot).offset 32) }
 {
     let at = entry_place(slot).offset;

@@ -17,7 +17,7 @@ pub mod data;
 pub mod search;
 
 pub use data::{block_sector, write_data, zero_block};
-pub use directory::{read_entry, resize_entry, turn_to, write_entry};
+pub use directory::{entry_in, read_entry, resize_entry, turn_to, write_entry};
 pub use found::{Found, Scan};
 pub use memory::Memory;
 pub use open_job::OpenJob;
