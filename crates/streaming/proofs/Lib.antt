@@ -1,3 +1,4 @@
 pub mod Pieces
 pub mod Endings
 pub mod Committing
+pub mod Openings

@@ -135,7 +135,7 @@ put_cut_later c o x e w p q = cut_of (sym (put_two o x e)) (performed_cut w (λ 
 
 -- WHAT THE JOB IS THEN
 
-same_job : {s s' f f' w w' : ℕ} {n n' g g' : List ℕ} → s ≡ s' → n ≡ n' → f ≡ f' → g ≡ g' → w ≡ w' →
+pub same_job : {s s' f f' w w' : ℕ} {n n' g g' : List ℕ} → s ≡ s' → n ≡ n' → f ≡ f' → g ≡ g' → w ≡ w' →
     ◌≡◌ {A = OpenJob} (record { slot = s; name = n; full = f; gathered = g; waiting = w }) (record { slot = s'; name = n'; full = f'; gathered = g'; waiting = w' })
 same_job a b c d e = cc
 

@@ -23,6 +23,11 @@ abbrev pub Makes : plans.OpenJob → Result OpenJob Fault → Type 0
 Makes p (Ok o) = open_job o ≡ p
 Makes p (Err f) = Unit {0}
 
+-- told whatever the device: the job is in slot k
+abbrev pub InThere : ℕ → Result OpenJob Fault → Type 0
+InThere k (Ok o) = o.slot ≡ k
+InThere k (Err f) = Unit {0}
+
 -- the handle that open answers is the slot of the job
 abbrev pub HandleOf : ℕ → Answer → Type 0
 HandleOf k a = a ≡ handle k

@@ -10,7 +10,7 @@ ghost use Rattle.volume.specs.Directory.{OfSlot};
 ghost use Rattle.volume.specs.Kept.{kept};
 ghost use Rattle.volume.specs.Outcomes.{Performs};
 ghost use Rattle.volume.specs.Performing.{Runs};
-ghost use Rattle.streaming.specs.Opened.{Continues, Makes, Opened, OpenedIn, opened, HandleOf};
+ghost use Rattle.streaming.specs.Opened.{Continues, Makes, InThere, Opened, OpenedIn, opened, HandleOf};
 
 use device::{Fault, SectorDevice, zero_sector};
 use entries::Entry;
@@ -28,6 +28,7 @@ fn continue_job<D: SectorDevice>(
     layout: &Layout,
     job: &Found,
 ) -> Result<OpenJob, Fault>
+    ensures slot { InThere job.now.slot result }
     ensures keeps { KeepsFaults D.SectorDevice device.old device.new }
     ensures continues { OfSlot D.SectorDevice layout.now job.now.slot device.old device.new (λ t m m'. Continues t m m' job.now.slot (job_in job.now.entry (place_in (places layout.now m.sectors) job.now.slot).sectors) result) }
 {
@@ -61,6 +62,7 @@ fn make_job<D: SectorDevice>(
     room: &Found,
     name: &Name,
 ) -> Result<OpenJob, Fault>
+    ensures slot { InThere room.now.slot result }
     ensures keeps { KeepsFaults D.SectorDevice device.old device.new }
     ensures runs { OfSlot D.SectorDevice layout.now room.now.slot device.old device.new (λ t m m'. (text : List ℕ) → name.now.bytes ≡ padded text → Runs t layout.now for_entries m m' (entering room.now.slot (saved_entry (place_in (places layout.now m.sectors) room.now.slot) (new_job text)) ∷ []) result) }
     ensures makes { (text : List ℕ) → name.now.bytes ≡ padded text → Makes (opened_new room.now.slot text) result }
