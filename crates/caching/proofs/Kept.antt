@@ -9,7 +9,7 @@ use Rattle.device.specs.Meaning.{Meaning, sector}
 use Rattle.device.specs.Transfers.{Reads, Writes}
 use Rattle.device.specs.declared.faults.Fault.{Fault}
 use Rattle.layers.specs.Layer.{passed_answer}
-use Rattle.caching.specs.Keeping.{InPlace, Kept, KeptToo, Followed, TrueOf}
+use Rattle.caching.specs.Cache.{InPlace, Kept, KeptToo, Followed, TrueOf}
 use Rattle.kept.specs.Kept.{Places, kept_bytes, given_back}
 use Rattle.kept.specs.declared.KeptSector.{KeptSector}
 
@@ -53,27 +53,33 @@ left n k x (Some e) h = by_sector (eqb e.sector n) refl h
     by_sector true t h = absurd h
     by_sector false t h = (h, λ d. eqb-false e.sector n t (h.0 ∙ d))
 
--- place a is set to sector n, after what was kept of that sector was given back
-pub kept_too : (xs : Places) (a n : ℕ) (own b : List ℕ) → length xs ≡ 4 → a < 4 → own ≡ b →
+-- place a is set to sector n, after what was kept of that sector below i was let go
+pub kept_too : (xs ys : Places) (a n i : ℕ) (own b : List ℕ) → a < length ys → a < 4 → 4 ≤ i → own ≡ b →
+    ((j k : ℕ) (x : List ℕ) → InPlace (get_or ys j None) k x → InPlace (get_or xs j None) k x × (j < i → k ≢ n)) →
+    KeptToo xs (set ys a (entry n own)) n b
+kept_too xs ys a n i own b la four li q inv = record {
+  here = (a, four, subst (λ (v : Option KeptSector). InPlace v n b) (sym (get_or-set_same ys a (entry n own) None la)) (refl, q));
+  others = λ k x h.
+      let j = h.0 in
+      elim (cases_eq j a) [
+        | inl same ↦
+            let e = ap (λ (v : ℕ). get_or (set ys a (entry n own)) v None) same ∙ get_or-set_same ys a (entry n own) None la in
+            let s : InPlace (entry n own) k x = subst (λ (v : Option KeptSector). InPlace v k x) e h.2 in
+            inl (sym s.0, sym s.1 ∙ q)
+        | inr other ↦
+            let p = inv j k x (subst (λ (v : Option KeptSector). InPlace v k x) (get_or-set_other ys a j (entry n own) None other) h.2) in
+            inr (p.1 (omega (arith, li, h.1)), (j, h.1, p.0))
+      ];
+}
+
+-- the same of the places with that sector given back
+pub kept_given_back : (xs : Places) (a n : ℕ) (own b : List ℕ) → length xs ≡ 4 → a < 4 → own ≡ b →
     KeptToo xs (set (map (given_back n) xs) a (entry n own)) n b
-kept_too xs a n own b l four q =
+kept_given_back xs a n own b l four q =
     let ys = map (given_back n) xs in
-    let la : a < length ys = omega (arith, length-map xs (given_back n)) in
-    record {
-      here = (a, four, subst (λ (v : Option KeptSector). InPlace v n b) (sym (get_or-set_same ys a (entry n own) None la)) (refl, q));
-      others = λ k x h.
-          let j = h.0 in
-          elim (cases_eq j a) [
-            | inl same ↦
-                let e = ap (λ (v : ℕ). get_or (set ys a (entry n own)) v None) same ∙ get_or-set_same ys a (entry n own) None la in
-                let s : InPlace (entry n own) k x = subst (λ (v : Option KeptSector). InPlace v k x) e h.2 in
-                inl (sym s.0, sym s.1 ∙ q)
-            | inr other ↦
-                let e = get_or-set_other ys a j (entry n own) None other ∙ get_or-map (given_back n) xs j None in
-                let p = left n k x (get_or xs j None) (subst (λ (v : Option KeptSector). InPlace v k x) e h.2) in
-                inr (p.1, (j, h.1, p.0))
-          ];
-    }
+    kept_too xs ys a n 4 own b (omega (arith, length-map xs (given_back n))) four (omega arith) q (λ j k x h.
+    let p = left n k x (get_or xs j None) (subst (λ (v : Option KeptSector). InPlace v k x) (get_or-map (given_back n) xs j None) h) in
+    (p.0, λ _. p.1))
 
 apart : {a b : ℕ} → a ≤ b → b < a → ⊥
 apart h k = omega arith

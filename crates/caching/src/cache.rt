@@ -1,7 +1,8 @@
 // The cache: up to four sectors of the device beneath, kept as they were last read or written. Every write goes
 // through to the device.
 ghost use Rattle.std.specs.Prelude.{◌≡◌, ℕ, List, length, Ok};
-ghost use Rattle.caching.specs.Keeping.{Kept, NothingKept, KeptToo, Followed, TrueOf, true_of-prop};
+ghost use Rattle.device.specs.Calls.{Stays, KeepsFaults, ReadsSector, WritesSector};
+ghost use Rattle.caching.specs.Cache.{cache_layer, Kept, NothingKept, KeptToo, Followed};
 
 use device::{Act, Fault, Geometry, SectorDevice, check_transfer};
 use kept::{KeptSector, find, give_back};
@@ -51,13 +52,11 @@ impl Entries {
     }
 }
 
-// A device with some of its sectors in memory. It is sound, as its ghost field says: these are what lies
-// beneath.
+// A device with some of its sectors in memory.
 #[derive(Drop)]
 pub struct Cache<D: SectorDevice> {
     beneath: D,
     entries: Entries,
-    pub ghost sound: { TrueOf (D.SectorDevice.meaning beneath) entries.places } by { true_of-prop (D.SectorDevice.meaning beneath) entries.places },
 }
 
 impl<D: SectorDevice> Cache<D> {
@@ -65,6 +64,7 @@ impl<D: SectorDevice> Cache<D> {
     pub fn new(beneath: D) -> Cache<D>
         ensures beneath { result.beneath ≡ beneath }
         ensures entries { NothingKept result.entries.places }
+        ensures sound { D.SectorDevice.sound beneath → (cache_layer D.SectorDevice).sound result }
     {
         Cache {
             beneath,
@@ -82,10 +82,9 @@ impl<D: SectorDevice> Cache<D> {
 }
 
 impl<D: SectorDevice> SectorDevice for Cache<D> {
-    ghost use Rattle.device.specs.Calls.{KeepsFaults, ReadsSector, WritesSector};
-    ghost use Rattle.caching.specs.Cache.{cache_layer};
-
     ghost meaning = { λ d. (cache_layer D.SectorDevice).meaning d };
+
+    ghost sound = { λ d. (cache_layer D.SectorDevice).sound d };
 
     ghost faults = { λ d. (cache_layer D.SectorDevice).faults d };
 
@@ -98,6 +97,7 @@ impl<D: SectorDevice> SectorDevice for Cache<D> {
     }
 
     fn read(&mut self, n: u32, buf: &mut [u8]) -> Result<(), Fault>
+        ensures stays { Stays (cache_layer D.SectorDevice) self.old self.new }
         ensures faults { KeepsFaults (cache_layer D.SectorDevice) self.old self.new }
         ensures reads { ReadsSector (cache_layer D.SectorDevice) self.old self.new n buf.old buf.new result }
         ensures untouched { (b : List ℕ) → Kept self.old.entries.places n b → self.new.beneath ≡ self.old.beneath }
@@ -114,6 +114,7 @@ impl<D: SectorDevice> SectorDevice for Cache<D> {
     }
 
     fn write(&mut self, n: u32, buf: &[u8]) -> Result<(), Fault>
+        ensures stays { Stays (cache_layer D.SectorDevice) self.old self.new }
         ensures faults { KeepsFaults (cache_layer D.SectorDevice) self.old self.new }
         ensures writes { WritesSector (cache_layer D.SectorDevice) self.old self.new n buf.now result }
         ensures keeps { result ≡ Ok tt → Kept self.new.entries.places n buf.now }

@@ -1,6 +1,6 @@
 // Erasing, renaming and bringing back.
 ghost use Rattle.std.specs.Prelude.{◌≡◌, ◌&&◌};
-ghost use Rattle.device.specs.Calls.{KeepsFaults, Means};
+ghost use Rattle.device.specs.Calls.{Keeps, OfSound};
 ghost use Rattle.entries.specs.State.{state_of};
 ghost use Rattle.plans.specs.Calls as calls;
 ghost use Rattle.plans.specs.Slots.{Job, as_slot, is_erased, is_live};
@@ -16,8 +16,8 @@ use volume::{Memory, find, read_entry, scan, write_entry};
 
 // Erases a job that is not open: its entry is marked, and can be brought back until its slot is taken.
 pub fn erase<D: SectorDevice>(device: &mut D, memory: &Memory, name: &[u8]) -> Result<(), Refusal>
-    ensures keeps { KeepsFaults D.SectorDevice device.old device.new }
-    ensures performs { Means D.SectorDevice device.old device.new (λ t m m'. Performs t Plain (calls.erase name.now) m m' (kept memory.now) (kept memory.now) result) }
+    ensures keeps { Keeps D.SectorDevice device.old device.new }
+    ensures performs { OfSound D.SectorDevice device.old device.new (λ t m m'. Performs t Plain (calls.erase name.now) m m' (kept memory.now) (kept memory.now) result) }
 {
     let job = find_shut(device, memory, name)?;
     let mut sector = zero_sector();
@@ -33,8 +33,8 @@ pub fn rename<D: SectorDevice>(
     old: &[u8],
     new: &[u8],
 ) -> Result<(), Refusal>
-    ensures keeps { KeepsFaults D.SectorDevice device.old device.new }
-    ensures performs { Means D.SectorDevice device.old device.new (λ t m m'. Performs t Plain (calls.rename old.now new.now) m m' (kept memory.now) (kept memory.now) result) }
+    ensures keeps { Keeps D.SectorDevice device.old device.new }
+    ensures performs { OfSound D.SectorDevice device.old device.new (λ t m m'. Performs t Plain (calls.rename old.now new.now) m m' (kept memory.now) (kept memory.now) result) }
 {
     let old = padded(old)?;
     let new = Name::new(new).ok_or(Refusal::Name)?;
@@ -67,8 +67,8 @@ pub fn undelete<D: SectorDevice>(
     slot: u16,
     letter: u8,
 ) -> Result<(), Refusal>
-    ensures keeps { KeepsFaults D.SectorDevice device.old device.new }
-    ensures performs { Means D.SectorDevice device.old device.new (λ t m m'. Performs t Plain (calls.undelete slot letter) m m' (kept memory.now) (kept memory.now) result) }
+    ensures keeps { Keeps D.SectorDevice device.old device.new }
+    ensures performs { OfSound D.SectorDevice device.old device.new (λ t m m'. Performs t Plain (calls.undelete slot letter) m m' (kept memory.now) (kept memory.now) result) }
 {
     if !is_name_byte(letter) {
         return Err(Refusal::Name);

@@ -1,6 +1,6 @@
 // Wiping, and the end of wipes that were cut off.
 ghost use Rattle.std.specs.Prelude.{◌≤◌};
-ghost use Rattle.device.specs.Calls.{KeepsFaults, Means};
+ghost use Rattle.device.specs.Calls.{Keeps, OfSound};
 ghost use Rattle.plans.specs.Calls as calls;
 ghost use Rattle.plans.specs.Plans.{for_entries, emptying};
 ghost use Rattle.volume.specs.Directory.{OfSlot, Holds};
@@ -23,7 +23,7 @@ fn empty_slot<D: SectorDevice>(
     count: u8,
     sector: &mut [u8; 512],
 ) -> Result<(), Fault>
-    ensures keeps { KeepsFaults D.SectorDevice device.old device.new }
+    ensures keeps { Keeps D.SectorDevice device.old device.new }
     ensures runs { OfSlot D.SectorDevice layout.now slot device.old device.new (λ t m m'. count ≤ 128 → Runs t layout.now for_entries m m' (emptying slot count) result) }
     ensures holds { OfSlot D.SectorDevice layout.now slot device.old device.new (λ t m m'. count ≤ 128 → Holds m' slot sector.new result) }
 {
@@ -33,8 +33,8 @@ fn empty_slot<D: SectorDevice>(
 
 // Wipes a job that is not open: its slot is held until all of its sectors are zeros, and is empty then.
 pub fn wipe<D: SectorDevice>(device: &mut D, memory: &Memory, name: &[u8]) -> Result<(), Refusal>
-    ensures keeps { KeepsFaults D.SectorDevice device.old device.new }
-    ensures performs { Means D.SectorDevice device.old device.new (λ t m m'. Performs t Plain (calls.wipe name.now) m m' (kept memory.now) (kept memory.now) result) }
+    ensures keeps { Keeps D.SectorDevice device.old device.new }
+    ensures performs { OfSound D.SectorDevice device.old device.new (λ t m m'. Performs t Plain (calls.wipe name.now) m m' (kept memory.now) (kept memory.now) result) }
 {
     let job = find_shut(device, memory, name)?;
     let count = job.entry.sectors;
@@ -50,8 +50,8 @@ pub fn wipe<D: SectorDevice>(device: &mut D, memory: &Memory, name: &[u8]) -> Re
 // Completes the wipes that were cut off, from the lowest slot up. The buffer holds a slot's directory sector on from its
 // first slot, so each is read once but for the entries that are written into it.
 pub fn sweep<D: SectorDevice>(device: &mut D, memory: &Memory) -> Result<(), Refusal>
-    ensures keeps { KeepsFaults D.SectorDevice device.old device.new }
-    ensures performs { Means D.SectorDevice device.old device.new (λ t m m'. Performs t Plain calls.sweep m m' (kept memory.now) (kept memory.now) result) }
+    ensures keeps { Keeps D.SectorDevice device.old device.new }
+    ensures performs { OfSound D.SectorDevice device.old device.new (λ t m m'. Performs t Plain calls.sweep m m' (kept memory.now) (kept memory.now) result) }
 {
     let layout = Layout::of(memory.size);
     let mut sector = zero_sector();

@@ -5,6 +5,8 @@ use crate::sector_device::SectorDevice;
 impl<'a, D: SectorDevice> SectorDevice for &'a mut D {
     ghost meaning = { λ d. D.SectorDevice.meaning d.now };
 
+    ghost sound = { λ d. D.SectorDevice.sound d.now };
+
     ghost faults = { λ d. D.SectorDevice.faults d.now };
 
     fn size(&self) -> u32 {

@@ -1,5 +1,5 @@
 -- The writes of a format, put together; and what each first part of them leaves.
-use Rattle.std.proofs.Common.{◌≡◌, ℕ, zero, suc, ◌+◌, ◌-◌, ◌<◌, ◌≤◌, ◌≢◌, ◌⊎◌, List, [], ◌∷◌, ◌++◌, length, get_or, take, set, Some, Option, Result, sym, refl, ap, ◌∙◌, subst, ap₂, inl, inr, arith, length-append}
+use Rattle.std.proofs.Common.{◌≡◌, ℕ, zero, suc, ◌+◌, ◌-◌, ◌<◌, ◌≤◌, ◌≢◌, ◌⊎◌, List, [], ◌∷◌, ◌++◌, length, get_or, take, set, true, Some, Option, Result, sym, refl, ap, ◌∙◌, subst, ap₂, inl, inr, arith, length-append}
 use native.Mathlib.Nat.{sub-zero}
 use Rattle.std.proofs.lemmas.List.{length-set, get_or-set_same, get_or-set_other, take-append-le, take_all}
 use Rattle.std.proofs.lemmas.Bool.{cases_lt}
@@ -127,6 +127,8 @@ interrupted_leaves {m = m} l p i =
 
 -- what format knows once its tests have passed: its label l is that of the new card, on which a file has room
 pub record Passed (m : Meaning) (name id : List ℕ) (l : Label) : Type 0 where
+  pub lawful_name : lawful_name name ≡ true
+  pub lawful_id : lawful_id id ≡ true
   pub label : l ≡ new_label (length m.sectors) m.geometry name id
   pub room : l.layout.slots ≢ 0
   pub name_length : length l.name ≡ 16
@@ -137,9 +139,11 @@ pub passed : {m : Meaning} {name id : List ℕ} {l : Layout} {g : Geometry} {x y
     a ≡ name_of name → a ≡ Some n → b ≡ id_of id → b ≡ Some i → l ≡ layout_of k → k ≡ length m.sectors → g ≡ m.geometry → x ≡ n.bytes → y ≡ i.bytes →
     l.slots ≢ 0 → length x ≡ 16 → length y ≡ 4 → Passed m name id (record { layout = l; geometry = g; name = x; id = y })
 passed {name = name} {id = id} {n = n} {i = i} ea en eb ei el ek eg ex ey some lx ly =
-    let same_name = (cond_some (lawful_name name) _ n (sym ea ∙ en)).1 in
-    let same_id = (cond_some (lawful_id id) _ i (sym eb ∙ ei)).1 in
-    record { label = cc; room = some; name_length = lx; id_length = ly }
+    let good_name = cond_some (lawful_name name) _ n (sym ea ∙ en) in
+    let good_id = cond_some (lawful_id id) _ i (sym eb ∙ ei) in
+    let same_name = good_name.1 in
+    let same_id = good_id.1 in
+    record { lawful_name = good_name.0; lawful_id = good_id.0; label = cc; room = some; name_length = lx; id_length = ly }
 
 area_inside : (n : ℕ) → 0 < slots_of n → area_of n ≤ n
 area_inside n h = omega arith

@@ -9,6 +9,7 @@ use Rattle.layers.specs.declared.counting.Counting.{Counting}
 abbrev pub counting_layer : {D : Type 0} → Ghosts D → Ghosts (Counting D)
 counting_layer g = record {
   meaning = λ d. g.meaning d.beneath;
+  sound = λ d. g.sound d.beneath;
   faults = λ d. passed_on (g.faults d.beneath);
 }
 

@@ -28,6 +28,7 @@ window_of m first count = record {
 abbrev pub window_layer : {D : Type 0} → Ghosts D → Ghosts (Window D)
 window_layer g = record {
   meaning = λ d. window_of (g.meaning d.beneath) d.span.first d.span.count;
+  sound = λ d. g.sound d.beneath;
   faults = λ d. raised_faults (g.faults d.beneath) (λ n. d.span.first + n);
 }
 
@@ -48,8 +49,10 @@ pub record WritesBeneath (t : Faults) (m m' : Meaning) (first count n : ℕ) (b 
 -- the same of a window d before and d' after
 abbrev pub AsksRead : {D : Type 0} → Ghosts D → (d d' : Window D) (n : ℕ) (b b' : List ℕ) → Result (Unit {0}) Fault → Type 0
 AsksRead g d d' n b b' r =
+    g.sound d.beneath →
     ReadsBeneath (g.faults d.beneath) (g.meaning d.beneath) (g.meaning d'.beneath) d.span.first d.span.count n b b' r
 
 abbrev pub AsksWrite : {D : Type 0} → Ghosts D → (d d' : Window D) (n : ℕ) (b : List ℕ) → Result (Unit {0}) Fault → Type 0
 AsksWrite g d d' n b r =
+    g.sound d.beneath →
     WritesBeneath (g.faults d.beneath) (g.meaning d.beneath) (g.meaning d'.beneath) d.span.first d.span.count n b r

@@ -1,6 +1,6 @@
 // The counting layer: it passes every transfer on, and counts those that were accepted.
 ghost use Rattle.std.specs.Prelude.{◌≡◌};
-ghost use Rattle.device.specs.Calls.{KeepsFaults, ReadsSector, WritesSector};
+ghost use Rattle.device.specs.Calls.{Stays, KeepsFaults, ReadsSector, WritesSector};
 ghost use Rattle.layers.specs.Counting.{counting_layer, one_more, counted};
 
 use crate::answers::passed_on;
@@ -27,6 +27,7 @@ impl<D: SectorDevice> Counting<D> {
         ensures beneath { result.beneath ≡ beneath }
         ensures reads { result.reads ≡ 0 }
         ensures writes { result.writes ≡ 0 }
+        ensures sound { D.SectorDevice.sound beneath → (counting_layer D.SectorDevice).sound result }
     {
         Counting {
             beneath,
@@ -61,6 +62,8 @@ impl<D: SectorDevice> Counting<D> {
 impl<D: SectorDevice> SectorDevice for Counting<D> {
     ghost meaning = { λ d. (counting_layer D.SectorDevice).meaning d };
 
+    ghost sound = { λ d. (counting_layer D.SectorDevice).sound d };
+
     ghost faults = { λ d. (counting_layer D.SectorDevice).faults d };
 
     fn size(&self) -> u32 {
@@ -72,6 +75,7 @@ impl<D: SectorDevice> SectorDevice for Counting<D> {
     }
 
     fn read(&mut self, n: u32, buf: &mut [u8]) -> Result<(), Fault>
+        ensures stays { Stays (counting_layer D.SectorDevice) self.old self.new }
         ensures faults { KeepsFaults (counting_layer D.SectorDevice) self.old self.new }
         ensures reads { ReadsSector (counting_layer D.SectorDevice) self.old self.new n buf.old buf.new result }
         ensures counted_reads { self.new.reads ≡ counted self.old.reads result }
@@ -84,6 +88,7 @@ impl<D: SectorDevice> SectorDevice for Counting<D> {
     }
 
     fn write(&mut self, n: u32, buf: &[u8]) -> Result<(), Fault>
+        ensures stays { Stays (counting_layer D.SectorDevice) self.old self.new }
         ensures faults { KeepsFaults (counting_layer D.SectorDevice) self.old self.new }
         ensures writes { WritesSector (counting_layer D.SectorDevice) self.old self.new n buf.now result }
         ensures counted_reads { self.new.reads ≡ self.old.reads }

@@ -1,7 +1,7 @@
 // The window: some sectors of the device beneath, counted from 0, with its geometry and condition.
 ghost use Rattle.std.specs.Prelude.{◌≡◌, ◌+◌, ◌<◌, length, Decides};
 ghost use Rattle.device.specs.Meaning.{Lawful};
-ghost use Rattle.device.specs.Calls.{KeepsFaults, ReadsSector, WritesSector};
+ghost use Rattle.device.specs.Calls.{Stays, KeepsFaults, ReadsSector, WritesSector};
 ghost use Rattle.layers.specs.Window.{IsWindow, window_count, window_layer, AsksRead, AsksWrite};
 
 use crate::answers::passed_on;
@@ -35,6 +35,7 @@ impl<D: SectorDevice> Window<D> {
     pub fn new(beneath: D, span: Span) -> Window<D>
         ensures beneath { result.beneath ≡ beneath }
         ensures span { result.span ≡ span }
+        ensures sound { D.SectorDevice.sound beneath → (window_layer D.SectorDevice).sound result }
     {
         Window { beneath, span }
     }
@@ -50,8 +51,8 @@ impl<D: SectorDevice> Window<D> {
     // The number of sectors, as the device beneath has them now.
     fn count_now(&self) -> u32
         ensures room { 0 < result → self.now.span.first + result < 4294967296 }
-        ensures lawful { Lawful (D.SectorDevice.meaning self.now.beneath) }
-        ensures value { result ≡ window_count (length (D.SectorDevice.meaning self.now.beneath).sectors) self.now.span.first self.now.span.count }
+        ensures lawful { D.SectorDevice.sound self.now.beneath → Lawful (D.SectorDevice.meaning self.now.beneath) }
+        ensures value { D.SectorDevice.sound self.now.beneath → result ≡ window_count (length (D.SectorDevice.meaning self.now.beneath).sectors) self.now.span.first self.now.span.count }
     {
         if self.span.fits(self.beneath.size()) {
             self.span.count
@@ -64,6 +65,8 @@ impl<D: SectorDevice> Window<D> {
 impl<D: SectorDevice> SectorDevice for Window<D> {
     ghost meaning = { λ d. (window_layer D.SectorDevice).meaning d };
 
+    ghost sound = { λ d. (window_layer D.SectorDevice).sound d };
+
     ghost faults = { λ d. (window_layer D.SectorDevice).faults d };
 
     fn size(&self) -> u32 {
@@ -75,6 +78,7 @@ impl<D: SectorDevice> SectorDevice for Window<D> {
     }
 
     fn read(&mut self, n: u32, buf: &mut [u8]) -> Result<(), Fault>
+        ensures stays { Stays (window_layer D.SectorDevice) self.old self.new }
         ensures faults { KeepsFaults (window_layer D.SectorDevice) self.old self.new }
         ensures reads { ReadsSector (window_layer D.SectorDevice) self.old self.new n buf.old buf.new result }
         ensures beneath { AsksRead D.SectorDevice self.old self.new n buf.old buf.new result }
@@ -85,6 +89,7 @@ impl<D: SectorDevice> SectorDevice for Window<D> {
     }
 
     fn write(&mut self, n: u32, buf: &[u8]) -> Result<(), Fault>
+        ensures stays { Stays (window_layer D.SectorDevice) self.old self.new }
         ensures faults { KeepsFaults (window_layer D.SectorDevice) self.old self.new }
         ensures writes { WritesSector (window_layer D.SectorDevice) self.old self.new n buf.now result }
         ensures beneath { AsksWrite D.SectorDevice self.old self.new n buf.now result }

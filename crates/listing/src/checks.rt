@@ -1,6 +1,6 @@
 // The faults of a directory.
 ghost use Rattle.std.specs.Prelude.{◌≡◌, ◌≤◌, length, OnErr};
-ghost use Rattle.device.specs.Calls.{KeepsFaults, Means};
+ghost use Rattle.device.specs.Calls.{Keeps, OfSound};
 ghost use Rattle.plans.specs.Calls as calls;
 ghost use Rattle.plans.specs.Memory.{card_layout};
 ghost use Rattle.plans.specs.Rows.{findings};
@@ -44,9 +44,9 @@ pub fn check<'a, D: SectorDevice>(
     memory: &Memory,
     rows: &mut RowTable<'a, Finding>,
 ) -> Result<usize, Refusal>
-    ensures keeps { KeepsFaults D.SectorDevice device.old device.new }
-    ensures performs { Means D.SectorDevice device.old device.new (λ t m m'. Performs t (Checks rows.old.rows.now rows.new) calls.check m m' (kept memory.now) (kept memory.now) result) }
-    ensures refused { Means D.SectorDevice device.old device.new (λ t m m'. memory.now.size ≤ length m.sectors → OnErr result (HoldsFirst (findings (card_layout (kept memory.now)) m.sectors) rows.old.rows.now rows.new)) }
+    ensures keeps { Keeps D.SectorDevice device.old device.new }
+    ensures performs { OfSound D.SectorDevice device.old device.new (λ t m m'. Performs t (Checks rows.old.rows.now rows.new) calls.check m m' (kept memory.now) (kept memory.now) result) }
+    ensures refused { OfSound D.SectorDevice device.old device.new (λ t m m'. memory.now.size ≤ length m.sectors → OnErr result (HoldsFirst (findings (card_layout (kept memory.now)) m.sectors) rows.old.rows.now rows.new)) }
     ensures lender { rows.new.rows.ghost_name ≡ rows.old.rows.ghost_name }
 {
     rows.clear();

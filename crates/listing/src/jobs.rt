@@ -1,6 +1,6 @@
 // The jobs of a card.
 ghost use Rattle.std.specs.Prelude.{◌≡◌, ◌≤◌, length, OnErr};
-ghost use Rattle.device.specs.Calls.{KeepsFaults, Means};
+ghost use Rattle.device.specs.Calls.{Keeps, OfSound};
 ghost use Rattle.device.specs.Meaning.{Sectors};
 ghost use Rattle.plans.specs.Calls as calls;
 ghost use Rattle.plans.specs.Plans.{card_places};
@@ -42,9 +42,9 @@ pub fn list<'a, D: SectorDevice>(
     memory: &Memory,
     rows: &mut RowTable<'a, JobRow>,
 ) -> Result<usize, Refusal>
-    ensures keeps { KeepsFaults D.SectorDevice device.old device.new }
-    ensures performs { Means D.SectorDevice device.old device.new (λ t m m'. Performs t (Lists rows.old.rows.now rows.new) calls.list m m' (kept memory.now) (kept memory.now) result) }
-    ensures refused { Means D.SectorDevice device.old device.new (λ t m m'. memory.now.size ≤ length m.sectors → OnErr result (HoldsFirst (job_rows (slots_in (card_places (kept memory.now) m.sectors))) rows.old.rows.now rows.new)) }
+    ensures keeps { Keeps D.SectorDevice device.old device.new }
+    ensures performs { OfSound D.SectorDevice device.old device.new (λ t m m'. Performs t (Lists rows.old.rows.now rows.new) calls.list m m' (kept memory.now) (kept memory.now) result) }
+    ensures refused { OfSound D.SectorDevice device.old device.new (λ t m m'. memory.now.size ≤ length m.sectors → OnErr result (HoldsFirst (job_rows (slots_in (card_places (kept memory.now) m.sectors))) rows.old.rows.now rows.new)) }
     ensures lender { rows.new.rows.ghost_name ≡ rows.old.rows.ghost_name }
 {
     rows.clear();

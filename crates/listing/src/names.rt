@@ -1,7 +1,7 @@
 // Names that are live in a lower slot already.
 ghost use Rattle.std.specs.Prelude.{◌≡◌, ℕ, ◌+◌, ◌<◌, ◌≤◌, false, ◌&&◌, ◌||◌, nat_lt, slice_index_or};
 ghost use Rattle.std.specs.Str.{bytes_eq};
-ghost use Rattle.device.specs.Calls.{KeepsFaults};
+ghost use Rattle.device.specs.Calls.{Keeps};
 ghost use Rattle.device.specs.Meaning.{Sectors};
 ghost use Rattle.entries.specs.State.{state_of};
 ghost use Rattle.layout.specs.Sizes.{place_of};
@@ -61,7 +61,7 @@ pub(crate) fn taken_names<D: SectorDevice>(
     here: &[u8; 512],
 ) -> Result<[bool; 16], Fault>
     requires { first ≤ 65520 }
-    ensures keeps { KeepsFaults D.SectorDevice device.old device.new }
+    ensures keeps { Keeps D.SectorDevice device.old device.new }
     ensures taken { OfCard D.SectorDevice layout.now device.old device.new (λ t m m'. (place_of first).offset ≡ 0 → here.now ≡ directory_sector m.sectors first → TellsTaken t layout.now m m' first here.now result) }
 {
     // In a variable: behind a reference it is not known to fit its type.

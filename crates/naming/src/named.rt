@@ -1,6 +1,6 @@
 // Jobs by their names.
 ghost use Rattle.std.specs.Prelude.{◌≡◌, ◌<◌, ◌≤◌, length};
-ghost use Rattle.device.specs.Calls.{KeepsFaults, Means};
+ghost use Rattle.device.specs.Calls.{Keeps, OfSound};
 ghost use Rattle.plans.specs.Plans.{card_places};
 ghost use Rattle.volume.specs.Kept.{kept};
 ghost use Rattle.naming.specs.Named.{Finds, open_named, padded_name, padded_plan, named_plan, shut_plan};
@@ -30,8 +30,8 @@ pub fn find_job<D: SectorDevice>(
     memory: &Memory,
     name: &[u8; 16],
 ) -> Result<Found, Refusal>
-    ensures keeps { KeepsFaults D.SectorDevice device.old device.new }
-    ensures finds { Means D.SectorDevice device.old device.new (λ t m m'. memory.now.size ≤ length m.sectors → Finds (padded_plan (card_places (kept memory.now) m.sectors) name.now) t m m' (kept memory.now) result) }
+    ensures keeps { Keeps D.SectorDevice device.old device.new }
+    ensures finds { OfSound D.SectorDevice device.old device.new (λ t m m'. memory.now.size ≤ length m.sectors → Finds (padded_plan (card_places (kept memory.now) m.sectors) name.now) t m m' (kept memory.now) result) }
 {
     find(device, &Layout::of(memory.size), name)?.ok_or(Refusal::NoJob)
 }
@@ -42,8 +42,8 @@ pub fn find_named<D: SectorDevice>(
     memory: &Memory,
     name: &[u8],
 ) -> Result<Found, Refusal>
-    ensures keeps { KeepsFaults D.SectorDevice device.old device.new }
-    ensures finds { Means D.SectorDevice device.old device.new (λ t m m'. memory.now.size ≤ length m.sectors → Finds (named_plan (card_places (kept memory.now) m.sectors) name.now) t m m' (kept memory.now) result) }
+    ensures keeps { Keeps D.SectorDevice device.old device.new }
+    ensures finds { OfSound D.SectorDevice device.old device.new (λ t m m'. memory.now.size ≤ length m.sectors → Finds (named_plan (card_places (kept memory.now) m.sectors) name.now) t m m' (kept memory.now) result) }
 {
     find_job(device, memory, &padded(name)?)
 }
@@ -54,8 +54,8 @@ pub fn find_shut<D: SectorDevice>(
     memory: &Memory,
     name: &[u8],
 ) -> Result<Found, Refusal>
-    ensures keeps { KeepsFaults D.SectorDevice device.old device.new }
-    ensures finds { Means D.SectorDevice device.old device.new (λ t m m'. memory.now.size ≤ length m.sectors → Finds (shut_plan (card_places (kept memory.now) m.sectors) (kept memory.now).job name.now) t m m' (kept memory.now) result) }
+    ensures keeps { Keeps D.SectorDevice device.old device.new }
+    ensures finds { OfSound D.SectorDevice device.old device.new (λ t m m'. memory.now.size ≤ length m.sectors → Finds (shut_plan (card_places (kept memory.now) m.sectors) (kept memory.now).job name.now) t m m' (kept memory.now) result) }
 {
     let name = padded(name)?;
     if is_open(memory, &name) {

@@ -24,23 +24,28 @@ one_of_two m m' f n b (Err e) p =
     let y = x.1 in
     inr (ap Err (x.2 ∙ ap raised_fault (y.2 ∙ ap raised_fault y.1)))
 
+-- a write of sector n of a window of s sectors from f on
+pub written_or_full : {m m' : Meaning} (s f f₀ n : ℕ) (b : List ℕ) (r : Result (Unit {0}) Fault) → f ≡ f₀ → length m.sectors ≡ s →
+    Writes (pile_faults f) m m' n b r → WrittenOrFull s f₀ n b r
+written_or_full {m = m} {m' = m'} s f f₀ n b r e size w = record {
+  wrong_length = λ ne. (w.wrong_length ne).0;
+  out_of_range = λ l h. (w.out_of_range l (subst (λ (j : ℕ). j ≤ n) (sym size) h)).0;
+  otherwise = λ l h.
+      subst (λ (j : ℕ). (r ≡ Ok tt) ⊎ (r ≡ Err (full_below j n))) e
+      (one_of_two m m' f n b r (w.otherwise l (subst (λ (j : ℕ). n < j) (sym size) h)));
+}
+
 -- the sectors of the window, made with the span v₀ on a card of z sectors of zeros
-length-zero_window : (s : Sectors) (z : ℕ) (v v₀ : Span) → s ≡ replicate z (zeros 512) → v ≡ v₀ →
+pub length-zero_window : (s : Sectors) (z : ℕ) (v v₀ : Span) → s ≡ replicate z (zeros 512) → v ≡ v₀ →
     length (take (window_count (length s) v.first v.count) (drop v.first s)) ≡ window_count z v₀.first v₀.count
 length-zero_window s z v v₀ e p =
     length_window s v.first v.count ∙ ap (λ (j : ℕ). window_count j v.first v.count) (ap length e ∙ length-replicate z (zeros 512))
     ∙ ap (λ (x : Span). window_count z x.first x.count) p
 
-pub written_or_full : {m m' : Meaning} (s : Sectors) (z : ℕ) (v v₀ : Span) (n : ℕ) (b : List ℕ) (r : Result (Unit {0}) Fault) →
+-- the same of a window made with the span v₀ on a card of z sectors of zeros
+pub written_on_zeros : {m m' : Meaning} (s : Sectors) (z : ℕ) (v v₀ : Span) (n : ℕ) (b : List ℕ) (r : Result (Unit {0}) Fault) →
     s ≡ replicate z (zeros 512) → v ≡ v₀ →
     m.sectors ≡ take (window_count (length s) v.first v.count) (drop v.first s) →
     Writes (pile_faults v.first) m m' n b r → WrittenOrFull (window_count z v₀.first v₀.count) v₀.first n b r
-written_or_full {m = m} {m' = m'} s z v v₀ n b r e p q w =
-    let size = ap length q ∙ length-zero_window s z v v₀ e p in
-    record {
-      wrong_length = λ ne. (w.wrong_length ne).0;
-      out_of_range = λ l h. (w.out_of_range l (subst (λ (j : ℕ). j ≤ n) (sym size) h)).0;
-      otherwise = λ l h.
-          subst (λ (x : Span). (r ≡ Ok tt) ⊎ (r ≡ Err (full_below x.first n))) p
-          (one_of_two m m' v.first n b r (w.otherwise l (subst (λ (j : ℕ). n < j) (sym size) h)));
-    }
+written_on_zeros s z v v₀ n b r e p q w =
+    written_or_full _ v.first v₀.first n b r (ap (λ (x : Span). x.first) p) (ap length q ∙ length-zero_window s z v v₀ e p) w

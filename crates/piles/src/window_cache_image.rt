@@ -1,6 +1,7 @@
 // A window over a cache over an image: what is in range is never refused, a read gives what was written, and a write
 // goes through to the image.
 ghost use Rattle.std.specs.Prelude.{◌≡◌, length, Ok};
+ghost use Rattle.caching.specs.Cache.{NothingKept};
 ghost use Rattle.piles.specs.WindowOnImage.{pile_count, ReadsBack, InImage, WritesThrough};
 
 use crate::GEOMETRY;
@@ -12,6 +13,7 @@ use stores::ImageDevice;
 // A window over a cache over an image of these bytes.
 fn pile_over<'a>(bytes: &'a mut [u8], span: Span) -> Window<Cache<ImageDevice<'a>>>
     ensures bytes { result.beneath.beneath.bytes.now ≡ bytes.old }
+    ensures entries { NothingKept result.beneath.entries.places }
     ensures span { result.span ≡ span }
 {
     Window::new(Cache::new(ImageDevice::new(bytes, GEOMETRY)), span)

@@ -1,6 +1,6 @@
 // The bytes of a slot's block.
 ghost use Rattle.std.specs.Prelude.{◌+◌, ◌≤◌, ◌<◌, length};
-ghost use Rattle.device.specs.Calls.{KeepsFaults, Means};
+ghost use Rattle.device.specs.Calls.{Keeps, OfSound};
 ghost use Rattle.device.specs.Meaning.{Lawful};
 ghost use Rattle.layout.specs.Bytes.{part as part_of};
 ghost use Rattle.volume.specs.Directory.{OfSlot};
@@ -18,8 +18,8 @@ fn read_part<D: SectorDevice>(
     part: &mut [u8],
 ) -> Result<(), Fault>
     requires { skip + length part.old ≤ 512 }
-    ensures keeps { KeepsFaults D.SectorDevice device.old device.new }
-    ensures reads { Means D.SectorDevice device.old device.new (λ t m m'. n < length m.sectors → ReadsPart t m m' n skip part.old part.new result) }
+    ensures keeps { Keeps D.SectorDevice device.old device.new }
+    ensures reads { OfSound D.SectorDevice device.old device.new (λ t m m'. n < length m.sectors → ReadsPart t m m' n skip part.old part.new result) }
 {
     if part.len() == 512 {
         return device.read(n, part);
@@ -39,7 +39,7 @@ pub fn read_into<D: SectorDevice>(
     part: &mut [u8],
 ) -> Result<(), Fault>
     requires { place + length part.old ≤ 65535 }
-    ensures keeps { KeepsFaults D.SectorDevice device.old device.new }
+    ensures keeps { Keeps D.SectorDevice device.old device.new }
     ensures reads { OfSlot D.SectorDevice layout.now slot device.old device.new (λ t m m'. Lawful m → ReadsInto t m m' place (part_of (block_bytes layout.now m.sectors slot) place (length part.old)) part.old part.new result) }
 {
     let mut done = 0;

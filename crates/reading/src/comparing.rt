@@ -1,7 +1,7 @@
 // Comparing two jobs.
 ghost use Rattle.std.specs.Prelude.{◌≡◌, ◌≤◌, ◌<◌, take};
 ghost use Rattle.std.specs.Str.{bytes_eq};
-ghost use Rattle.device.specs.Calls.{KeepsFaults, Means};
+ghost use Rattle.device.specs.Calls.{Keeps, OfSound};
 ghost use Rattle.device.specs.Meaning.{Lawful};
 ghost use Rattle.plans.specs.Calls as calls;
 ghost use Rattle.volume.specs.Directory.{Room};
@@ -32,8 +32,8 @@ fn equal_blocks<D: SectorDevice>(
     other: u16,
     size: u16,
 ) -> Result<bool, Fault>
-    ensures keeps { KeepsFaults D.SectorDevice device.old device.new }
-    ensures compares { Means D.SectorDevice device.old device.new (λ t m m'. one < layout.now.slots → other < layout.now.slots → Room layout.now m → Lawful m → ComparesBytes t m m' (take size (block_bytes layout.now m.sectors one)) (take size (block_bytes layout.now m.sectors other)) result) }
+    ensures keeps { Keeps D.SectorDevice device.old device.new }
+    ensures compares { OfSound D.SectorDevice device.old device.new (λ t m m'. one < layout.now.slots → other < layout.now.slots → Room layout.now m → Lawful m → ComparesBytes t m m' (take size (block_bytes layout.now m.sectors one)) (take size (block_bytes layout.now m.sectors other)) result) }
 {
     let mut mine = zero_sector();
     let mut theirs = zero_sector();
@@ -55,8 +55,8 @@ pub fn same<D: SectorDevice>(
     one: &[u8],
     other: &[u8],
 ) -> Result<bool, Refusal>
-    ensures keeps { KeepsFaults D.SectorDevice device.old device.new }
-    ensures performs { Means D.SectorDevice device.old device.new (λ t m m'. Performs t Compared (calls.same one.now other.now) m m' (kept memory.now) (kept memory.now) result) }
+    ensures keeps { Keeps D.SectorDevice device.old device.new }
+    ensures performs { OfSound D.SectorDevice device.old device.new (λ t m m'. Performs t Compared (calls.same one.now other.now) m m' (kept memory.now) (kept memory.now) result) }
 {
     // asked for what a device promises with it: that every sector has 512 bytes, so that entries tell their jobs' lengths
     device.size();

@@ -1,6 +1,6 @@
 // Loading a job, and reading it from a place on.
 ghost use Rattle.std.specs.Prelude.{◌≤◌, length};
-ghost use Rattle.device.specs.Calls.{KeepsFaults, Means};
+ghost use Rattle.device.specs.Calls.{Keeps, OfSound};
 ghost use Rattle.plans.specs.Calls as calls;
 ghost use Rattle.plans.specs.Plans.{plan};
 ghost use Rattle.volume.specs.Kept.{kept};
@@ -24,9 +24,9 @@ pub fn load<D: SectorDevice>(
     name: &[u8],
     buffer: &mut [u8],
 ) -> Result<JobInfo, Refusal>
-    ensures keeps { KeepsFaults D.SectorDevice device.old device.new }
-    ensures performs { Means D.SectorDevice device.old device.new (λ t m m'. Performs t Loaded (calls.load name.now (length buffer.old)) m m' (kept memory.now) (kept memory.now) result) }
-    ensures fills { Means D.SectorDevice device.old device.new (λ t m m'. memory.now.size ≤ length m.sectors → Filled (plan m.sectors (kept memory.now) (calls.load name.now (length buffer.old))) 0 buffer.old buffer.new result) }
+    ensures keeps { Keeps D.SectorDevice device.old device.new }
+    ensures performs { OfSound D.SectorDevice device.old device.new (λ t m m'. Performs t Loaded (calls.load name.now (length buffer.old)) m m' (kept memory.now) (kept memory.now) result) }
+    ensures fills { OfSound D.SectorDevice device.old device.new (λ t m m'. memory.now.size ≤ length m.sectors → Filled (plan m.sectors (kept memory.now) (calls.load name.now (length buffer.old))) 0 buffer.old buffer.new result) }
 {
     // asked for what a device promises with it: that every sector has 512 bytes, so that the entry tells the job's length
     device.size();
@@ -58,9 +58,9 @@ pub fn read<D: SectorDevice>(
     place: usize,
     buffer: &mut [u8],
 ) -> Result<usize, Refusal>
-    ensures keeps { KeepsFaults D.SectorDevice device.old device.new }
-    ensures performs { Means D.SectorDevice device.old device.new (λ t m m'. Performs t Counted (calls.read name.now place (length buffer.old)) m m' (kept memory.now) (kept memory.now) result) }
-    ensures fills { Means D.SectorDevice device.old device.new (λ t m m'. memory.now.size ≤ length m.sectors → Filled (plan m.sectors (kept memory.now) (calls.read name.now place (length buffer.old))) place buffer.old buffer.new result) }
+    ensures keeps { Keeps D.SectorDevice device.old device.new }
+    ensures performs { OfSound D.SectorDevice device.old device.new (λ t m m'. Performs t Counted (calls.read name.now place (length buffer.old)) m m' (kept memory.now) (kept memory.now) result) }
+    ensures fills { OfSound D.SectorDevice device.old device.new (λ t m m'. memory.now.size ≤ length m.sectors → Filled (plan m.sectors (kept memory.now) (calls.read name.now place (length buffer.old))) place buffer.old buffer.new result) }
 {
     device.size(); // as load does
     let job = find_named(device, memory, name)?;

@@ -1,6 +1,6 @@
 // Saving.
 ghost use Rattle.std.specs.Prelude.{◌≡◌};
-ghost use Rattle.device.specs.Calls.{KeepsFaults, Means};
+ghost use Rattle.device.specs.Calls.{Keeps, OfSound};
 ghost use Rattle.plans.specs.Calls as calls;
 ghost use Rattle.plans.specs.Rows.{known_kind};
 ghost use Rattle.volume.specs.Kept.{kept};
@@ -29,8 +29,8 @@ pub fn save<D: SectorDevice>(
     address: u16,
     bytes: &[u8],
 ) -> Result<(), Refusal>
-    ensures keeps { KeepsFaults D.SectorDevice device.old device.new }
-    ensures performs { Means D.SectorDevice device.old device.new (λ t m m'. Performs t Plain (calls.save name.now kind address bytes.now) m m' (kept memory.now) (kept memory.now) result) }
+    ensures keeps { Keeps D.SectorDevice device.old device.new }
+    ensures performs { OfSound D.SectorDevice device.old device.new (λ t m m'. Performs t Plain (calls.save name.now kind address bytes.now) m m' (kept memory.now) (kept memory.now) result) }
 {
     let name = Name::new(name).ok_or(Refusal::Name)?;
     if !is_known(kind) {

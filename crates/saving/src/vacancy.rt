@@ -1,6 +1,6 @@
 // Slots for new jobs.
 ghost use Rattle.std.specs.Prelude.{◌≡◌, ◌≤◌, ◌++◌, length};
-ghost use Rattle.device.specs.Calls.{KeepsFaults, Means};
+ghost use Rattle.device.specs.Calls.{Keeps, OfSound};
 ghost use Rattle.places.specs.Places.{places};
 ghost use Rattle.plans.specs.Plans.{for_entries, clearing, place_in, entry_of, card_places};
 ghost use Rattle.plans.specs.Slots.{decoded};
@@ -21,8 +21,8 @@ pub(crate) fn find_room<D: SectorDevice>(
     memory: &Memory,
     name: &[u8; 16],
 ) -> Result<Found, Refusal>
-    ensures keeps { KeepsFaults D.SectorDevice device.old device.new }
-    ensures finds { Means D.SectorDevice device.old device.new (λ t m m'. memory.now.size ≤ length m.sectors → FindsRoom t m m' (kept memory.now) name.now result) }
+    ensures keeps { Keeps D.SectorDevice device.old device.new }
+    ensures finds { OfSound D.SectorDevice device.old device.new (λ t m m'. memory.now.size ≤ length m.sectors → FindsRoom t m m' (kept memory.now) name.now result) }
 {
     let scan = scan(device, &Layout::of(memory.size), name, name)?;
     if scan.one.is_some() {
@@ -33,7 +33,7 @@ pub(crate) fn find_room<D: SectorDevice>(
 
 // Zeroes the entry of an erased job: undelete finds no mixture then.
 fn clear<D: SectorDevice>(device: &mut D, layout: &Layout, room: &Found) -> Result<(), Fault>
-    ensures keeps { KeepsFaults D.SectorDevice device.old device.new }
+    ensures keeps { Keeps D.SectorDevice device.old device.new }
     ensures runs { OfSlot D.SectorDevice layout.now room.now.slot device.old device.new (λ t m m'. room.now.entry ≡ entry_of (place_in (places layout.now m.sectors) room.now.slot) → Runs t layout.now for_entries m m' (clearing room.now.slot (decoded (place_in (places layout.now m.sectors) room.now.slot))) result) }
 {
     if room.entry.state(layout, room.slot) == EntryState::Erased {
@@ -51,7 +51,7 @@ pub(crate) fn take_room<D: SectorDevice>(
     bytes: &[u8],
 ) -> Result<(), Fault>
     requires { length bytes.now ≤ 65535 }
-    ensures keeps { KeepsFaults D.SectorDevice device.old device.new }
+    ensures keeps { Keeps D.SectorDevice device.old device.new }
     ensures runs { OfSlot D.SectorDevice layout.now room.now.slot device.old device.new (λ t m m'. room.now.entry ≡ entry_of (place_in (places layout.now m.sectors) room.now.slot) → Runs t layout.now for_entries m m' (clearing room.now.slot (decoded (place_in (places layout.now m.sectors) room.now.slot)) ++ job_writes room.now.slot entry.now bytes.now) result) }
 {
     clear(device, layout, room)?;

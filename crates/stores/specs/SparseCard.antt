@@ -6,5 +6,6 @@ use Rattle.stores.specs.declared.sparse.SparseDevice.{SparseDevice}
 abbrev pub sparse_card : Ghosts SparseDevice
 sparse_card = record {
   meaning = λ d. sparse_of d.places.now d.size d.geometry d.failed;
+  sound = λ d. Unit {0};
   faults = λ d. sparse_faults;
 }

@@ -68,6 +68,8 @@ impl<'a> ImageDevice<'a> {
 impl<'a> SectorDevice for ImageDevice<'a> {
     ghost meaning = { λ d. image_of d.bytes.now d.geometry };
 
+    ghost sound = { λ d. Unit {0} };
+
     ghost faults = { λ d a n f. ⊥ };
 
     fn size(&self) -> u32 {

@@ -98,10 +98,12 @@ impl<'a> SparseDevice<'a> {
 }
 
 impl<'a> SectorDevice for SparseDevice<'a> {
-    ghost use Rattle.device.specs.Calls.{KeepsFaults, ReadsSector, WritesSector};
+    ghost use Rattle.device.specs.Calls.{Stays, KeepsFaults, ReadsSector, WritesSector};
     ghost use Rattle.stores.specs.SparseCard.{sparse_card};
 
     ghost meaning = { λ d. sparse_card.meaning d };
+
+    ghost sound = { λ d. sparse_card.sound d };
 
     ghost faults = { λ d. sparse_card.faults d };
 
@@ -115,6 +117,7 @@ impl<'a> SectorDevice for SparseDevice<'a> {
 
     // A card that is well accepts every read of a sector that is there, and no read changes it.
     fn read(&mut self, n: u32, buf: &mut [u8]) -> Result<(), Fault>
+        ensures stays { Stays sparse_card self.old self.new }
         ensures faults { KeepsFaults sparse_card self.old self.new }
         ensures reads { ReadsSector sparse_card self.old self.new n buf.old buf.new result }
         ensures accepted { self.old.failed ≡ false → length buf.old ≡ 512 → n < self.old.size → result ≡ Ok tt }
@@ -130,6 +133,7 @@ impl<'a> SectorDevice for SparseDevice<'a> {
 
     // Zeros give back every place of the sector, other bytes take one; where there is none, refusals begin.
     fn write(&mut self, n: u32, buf: &[u8]) -> Result<(), Fault>
+        ensures stays { Stays sparse_card self.old self.new }
         ensures faults { KeepsFaults sparse_card self.old self.new }
         ensures writes { WritesSector sparse_card self.old self.new n buf.now result }
         ensures begins { Begins self.old.places.now self.old.size n buf.now self.old.failed self.new.failed result }

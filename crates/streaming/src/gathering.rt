@@ -1,6 +1,6 @@
 // Bytes gathered behind the open job.
 ghost use Rattle.std.specs.Prelude.{◌≡◌, ◌+◌, ◌≤◌, ◌++◌, length, take, drop};
-ghost use Rattle.device.specs.Calls.{KeepsFaults};
+ghost use Rattle.device.specs.Calls.{Keeps};
 ghost use Rattle.plans.specs.Memory.{job_length};
 ghost use Rattle.plans.specs.Plans.{never, put_writes};
 ghost use Rattle.volume.specs.Directory.{OfSlot};
@@ -28,7 +28,7 @@ pub(crate) fn gather<D: SectorDevice>(
     piece: &[u8],
 ) -> Result<OpenJob, Fault>
     requires { job_length (open_job job.now) + length piece.now ≤ 65535 }
-    ensures keeps { KeepsFaults D.SectorDevice device.old device.new }
+    ensures keeps { Keeps D.SectorDevice device.old device.new }
     ensures runs { OfSlot D.SectorDevice layout.now job.now.slot device.old device.new (λ t m m'. Runs t layout.now never m m' (put_writes (open_job job.now) piece.now) result) }
     ensures gathers { Gathers (open_job job.now) piece.now result }
 {

@@ -1,6 +1,6 @@
 // Opening a job.
 ghost use Rattle.std.specs.Prelude.{◌≡◌, ℕ, List, [], ◌∷◌};
-ghost use Rattle.device.specs.Calls.{KeepsFaults, Means};
+ghost use Rattle.device.specs.Calls.{Keeps, OfSound};
 ghost use Rattle.layout.specs.Names.{padded};
 ghost use Rattle.places.specs.Places.{places};
 ghost use Rattle.plans.specs.Calls as calls;
@@ -29,7 +29,7 @@ fn continue_job<D: SectorDevice>(
     job: &Found,
 ) -> Result<OpenJob, Fault>
     ensures slot { InThere job.now.slot result }
-    ensures keeps { KeepsFaults D.SectorDevice device.old device.new }
+    ensures keeps { Keeps D.SectorDevice device.old device.new }
     ensures continues { OfSlot D.SectorDevice layout.now job.now.slot device.old device.new (λ t m m'. Continues t m m' job.now.slot (job_in job.now.entry (place_in (places layout.now m.sectors) job.now.slot).sectors) result) }
 {
     // asked for what a device promises with it: that every sector has 512 bytes, so that the entry tells the job's length
@@ -63,7 +63,7 @@ fn make_job<D: SectorDevice>(
     name: &Name,
 ) -> Result<OpenJob, Fault>
     ensures slot { InThere room.now.slot result }
-    ensures keeps { KeepsFaults D.SectorDevice device.old device.new }
+    ensures keeps { Keeps D.SectorDevice device.old device.new }
     ensures runs { OfSlot D.SectorDevice layout.now room.now.slot device.old device.new (λ t m m'. (text : List ℕ) → name.now.bytes ≡ padded text → Runs t layout.now for_entries m m' (entering room.now.slot (saved_entry (place_in (places layout.now m.sectors) room.now.slot) (new_job text)) ∷ []) result) }
     ensures makes { (text : List ℕ) → name.now.bytes ≡ padded text → Makes (opened_new room.now.slot text) result }
 {
@@ -87,8 +87,8 @@ fn open_job<D: SectorDevice>(
     name: &[u8],
 ) -> Result<OpenJob, Refusal>
     ensures inside { OpenedIn memory.now.size result }
-    ensures keeps { KeepsFaults D.SectorDevice device.old device.new }
-    ensures performs { Means D.SectorDevice device.old device.new (λ t m m'. Performs t Opened (calls.open' name.now) m m' (kept memory.now) (opened (kept memory.now) result) result) }
+    ensures keeps { Keeps D.SectorDevice device.old device.new }
+    ensures performs { OfSound D.SectorDevice device.old device.new (λ t m m'. Performs t Opened (calls.open' name.now) m m' (kept memory.now) (opened (kept memory.now) result) result) }
 {
     let name = Name::new(name).ok_or(Refusal::Name)?;
     if memory.job.is_some() {
@@ -113,8 +113,8 @@ pub fn open<D: SectorDevice>(
     memory: &mut Memory,
     name: &[u8],
 ) -> Result<u16, Refusal>
-    ensures keeps { KeepsFaults D.SectorDevice device.old device.new }
-    ensures performs { Means D.SectorDevice device.old device.new (λ t m m'. Performs t HandleOf (calls.open' name.now) m m' (kept memory.old) (kept memory.new) result) }
+    ensures keeps { Keeps D.SectorDevice device.old device.new }
+    ensures performs { OfSound D.SectorDevice device.old device.new (λ t m m'. Performs t HandleOf (calls.open' name.now) m m' (kept memory.old) (kept memory.new) result) }
 {
     let job = open_job(device, memory, name)?;
     memory.job = Some(job);

@@ -1,6 +1,6 @@
 // Putting, committing and finishing.
 ghost use Rattle.std.specs.Prelude.{◌≡◌};
-ghost use Rattle.device.specs.Calls.{KeepsFaults, Means};
+ghost use Rattle.device.specs.Calls.{Keeps, OfSound};
 ghost use Rattle.plans.specs.Calls as calls;
 ghost use Rattle.plans.specs.Plans.{finish_by, tell};
 ghost use Rattle.volume.specs.Kept.{open_job, kept};
@@ -30,8 +30,8 @@ pub fn put<D: SectorDevice>(
     handle: u16,
     piece: &[u8],
 ) -> Result<(), Refusal>
-    ensures keeps { KeepsFaults D.SectorDevice device.old device.new }
-    ensures performs { Means D.SectorDevice device.old device.new (λ t m m'. Performs t Plain (calls.put handle piece.now) m m' (kept memory.old) (kept memory.new) result) }
+    ensures keeps { Keeps D.SectorDevice device.old device.new }
+    ensures performs { OfSound D.SectorDevice device.old device.new (λ t m m'. Performs t Plain (calls.put handle piece.now) m m' (kept memory.old) (kept memory.new) result) }
 {
     let job = held(memory, handle).ok_or(Refusal::NotOpen)?;
     if piece.len() > usize::from(65_535 - job.size()) {
@@ -48,8 +48,8 @@ pub fn commit<D: SectorDevice>(
     memory: &mut Memory,
     handle: u16,
 ) -> Result<(), Refusal>
-    ensures keeps { KeepsFaults D.SectorDevice device.old device.new }
-    ensures performs { Means D.SectorDevice device.old device.new (λ t m m'. Performs t Plain (calls.commit handle) m m' (kept memory.old) (kept memory.new) result) }
+    ensures keeps { Keeps D.SectorDevice device.old device.new }
+    ensures performs { OfSound D.SectorDevice device.old device.new (λ t m m'. Performs t Plain (calls.commit handle) m m' (kept memory.old) (kept memory.new) result) }
 {
     let job = held(memory, handle).ok_or(Refusal::NotOpen)?;
     if job.waiting == 0 {

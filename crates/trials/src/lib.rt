@@ -7,3 +7,5 @@ mod manual;
 mod bad_input;
 // Piles of devices.
 mod layers_over;
+// Caches in types of a caller's own.
+mod held_caches;

@@ -1,6 +1,6 @@
 -- Passes over the directory, each of whose sectors is read once, and what they find.
 use Rattle.std.specs.Prelude.{◌≡◌, ℕ, ◌+◌, ◌<◌, List, [], length, Some, None, Ok, Err, Option, Result, ◌≢◌, slice_index_or}
-use Rattle.device.specs.Calls.{Means}
+use Rattle.device.specs.Calls.{OfSound}
 use Rattle.device.specs.Faults.{Faults}
 use Rattle.device.specs.Meaning.{Meaning, Sectors, MayAccept, MayRefuse, now_failed}
 use Rattle.device.specs.declared.faults.Act.TheVariants.{Read}
@@ -22,15 +22,15 @@ pub record Room (c : Layout) (m : Meaning) : Type 0 where
 
 -- of a device on which the card of the layout c lies
 abbrev pub OfCard : {D : Type 0} → Ghosts D → Layout → D → D → (Faults → Meaning → Meaning → Type 0) → Type 0
-OfCard g c d d' P = Means g d d' (λ t m m'. Room c m → P t m m')
+OfCard g c d d' P = OfSound g d d' (λ t m m'. Room c m → P t m m')
 
 -- the same, and of one of its slots
 abbrev pub OfSlot : {D : Type 0} → Ghosts D → Layout → ℕ → D → D → (Faults → Meaning → Meaning → Type 0) → Type 0
-OfSlot g c k d d' P = Means g d d' (λ t m m'. k < c.slots → Room c m → P t m m')
+OfSlot g c k d d' P = OfSound g d d' (λ t m m'. k < c.slots → Room c m → P t m m')
 
 -- of a device that has the directory sector of slot k
 abbrev pub OfEntry : {D : Type 0} → Ghosts D → ℕ → D → D → (Faults → Meaning → Meaning → Type 0) → Type 0
-OfEntry g k d d' P = Means g d d' (λ t m m'. (place_of k).sector < length m.sectors → P t m m')
+OfEntry g k d d' P = OfSound g d d' (λ t m m'. (place_of k).sector < length m.sectors → P t m m')
 
 -- the directory sector of slot k
 abbrev pub directory_sector : Sectors → ℕ → List ℕ

@@ -1,6 +1,6 @@
 // The sectors of a slot's block.
 ghost use Rattle.std.specs.Prelude.{◌≡◌, ◌+◌, ◌*◌, ◌≤◌, length};
-ghost use Rattle.device.specs.Calls.{KeepsFaults, Means};
+ghost use Rattle.device.specs.Calls.{Keeps, OfSound};
 ghost use Rattle.device.specs.Transfers.{Writes};
 ghost use Rattle.layout.specs.Extents.{extent_of};
 ghost use Rattle.layout.specs.Sizes.{block_of};
@@ -32,8 +32,8 @@ fn padded_sector(part: &[u8]) -> [u8; 512]
 // At most a sector's bytes into a sector, zeros behind them; a whole sector goes straight from the caller's bytes.
 pub(crate) fn write_part<D: SectorDevice>(device: &mut D, n: u32, part: &[u8]) -> Result<(), Fault>
     requires { length part.now ≤ 512 }
-    ensures keeps { KeepsFaults D.SectorDevice device.old device.new }
-    ensures writes { Means D.SectorDevice device.old device.new (λ t m m'. Writes t m m' n (chunk part.now 0) result) }
+    ensures keeps { Keeps D.SectorDevice device.old device.new }
+    ensures writes { OfSound D.SectorDevice device.old device.new (λ t m m'. Writes t m m' n (chunk part.now 0) result) }
 {
     if part.len() == 512 {
         return device.write(n, part);
@@ -50,7 +50,7 @@ pub fn write_data<D: SectorDevice>(
     bytes: &[u8],
 ) -> Result<(), Fault>
     requires { 512 * from + length bytes.now ≤ 65536 }
-    ensures keeps { KeepsFaults D.SectorDevice device.old device.new }
+    ensures keeps { Keeps D.SectorDevice device.old device.new }
     ensures runs { OfSlot D.SectorDevice layout.now slot device.old device.new (λ t m m'. Runs t layout.now never m m' (filling slot from (chunk bytes.now) (extent_of (length bytes.now)).0) result) }
 {
     for (i, part) in bytes.chunks(512).enumerate() {
@@ -66,7 +66,7 @@ pub fn zero_block<D: SectorDevice>(
     slot: u16,
     count: u8,
 ) -> Result<(), Fault>
-    ensures keeps { KeepsFaults D.SectorDevice device.old device.new }
+    ensures keeps { Keeps D.SectorDevice device.old device.new }
     ensures runs { OfSlot D.SectorDevice layout.now slot device.old device.new (λ t m m'. count ≤ 128 → Runs t layout.now never m m' (filling slot 0 zero_chunk count) result) }
 {
     write_zeros(

@@ -1,6 +1,6 @@
 // The directory, one slot at a time.
 ghost use Rattle.std.specs.Prelude.{◌≡◌, [], ◌∷◌};
-ghost use Rattle.device.specs.Calls.{KeepsFaults};
+ghost use Rattle.device.specs.Calls.{Keeps};
 ghost use Rattle.entries.specs.Entry.{entry_in, entry_bytes, resized};
 ghost use Rattle.layout.specs.Bytes.{part};
 ghost use Rattle.layout.specs.Sizes.{place_of};
@@ -21,7 +21,7 @@ pub fn turn_to<D: SectorDevice>(
     slot: u16,
     sector: &mut [u8; 512],
 ) -> Result<(), Fault>
-    ensures keeps { KeepsFaults D.SectorDevice device.old device.new }
+    ensures keeps { Keeps D.SectorDevice device.old device.new }
     ensures turns { OfEntry D.SectorDevice slot device.old device.new (λ t m m'. Turns t m m' slot sector.old sector.new result) }
 {
     let place = entry_place(slot);
@@ -55,7 +55,7 @@ pub fn write_entry<D: SectorDevice>(
     entry: &Entry,
     sector: &mut [u8; 512],
 ) -> Result<(), Fault>
-    ensures keeps { KeepsFaults D.SectorDevice device.old device.new }
+    ensures keeps { Keeps D.SectorDevice device.old device.new }
     ensures runs { OfEntry D.SectorDevice slot device.old device.new (λ t m m'. (c : Layout) → Runs t c for_entries m m' (entering slot entry.now ∷ []) result) }
     ensures holds { OfEntry D.SectorDevice slot device.old device.new (λ t m m'. Holds m' slot sector.new result) }
 {
@@ -71,7 +71,7 @@ pub fn read_entry<D: SectorDevice>(
     layout: &Layout,
     slot: u16,
 ) -> Result<Entry, Fault>
-    ensures keeps { KeepsFaults D.SectorDevice device.old device.new }
+    ensures keeps { Keeps D.SectorDevice device.old device.new }
     ensures reads { OfSlot D.SectorDevice layout.now slot device.old device.new (λ t m m'. ReadsEntry t layout.now m m' slot result) }
 {
     let mut sector = zero_sector();
@@ -86,7 +86,7 @@ pub fn resize_entry<D: SectorDevice>(
     slot: u16,
     size: u16,
 ) -> Result<(), Fault>
-    ensures keeps { KeepsFaults D.SectorDevice device.old device.new }
+    ensures keeps { Keeps D.SectorDevice device.old device.new }
     ensures runs { OfSlot D.SectorDevice layout.now slot device.old device.new (λ t m m'. Runs t layout.now for_entries m m' (entering slot (resized (entry_of (place_in (places layout.now m.sectors) slot)) size) ∷ []) result) }
 {
     let n = entry_place(slot).sector;

@@ -1,6 +1,6 @@
 // Passes over the directory, each of whose sectors is read once.
 ghost use Rattle.std.specs.Prelude.{◌≡◌, Ok, Err};
-ghost use Rattle.device.specs.Calls.{KeepsFaults};
+ghost use Rattle.device.specs.Calls.{Keeps};
 ghost use Rattle.device.specs.Meaning.{Sectors};
 ghost use Rattle.plans.specs.Slots.{Job, job_in, as_slot, usable, named};
 ghost use Rattle.volume.specs.Directory.{OfCard, Scans, Seeks, InSlots, ScanIn, FoundIn};
@@ -33,7 +33,7 @@ pub fn scan<D: SectorDevice>(
     other: &[u8; 16],
 ) -> Result<Scan, Fault>
     ensures inside { ScanIn layout.now.slots result }
-    ensures keeps { KeepsFaults D.SectorDevice device.old device.new }
+    ensures keeps { Keeps D.SectorDevice device.old device.new }
     ensures scans { OfCard D.SectorDevice layout.now device.old device.new (λ t m m'. Scans t layout.now m m' one.now other.now result) }
 {
     let mut sector = zero_sector();
@@ -60,7 +60,7 @@ pub fn find<D: SectorDevice>(
     name: &[u8; 16],
 ) -> Result<Option<Found>, Fault>
     ensures inside { FoundIn layout.now.slots result }
-    ensures keeps { KeepsFaults D.SectorDevice device.old device.new }
+    ensures keeps { Keeps D.SectorDevice device.old device.new }
     ensures seeks { OfCard D.SectorDevice layout.now device.old device.new (λ t m m'. Seeks t layout.now m m' name.now result) }
 {
     let mut sector = zero_sector();

@@ -20,7 +20,7 @@ unfolding applied zeroing
 loop-n-init g c =
     let a = c.args.first in
     let e : 0 ≡ a - a = omega arith in
-    record { counted = omega arith; keeps = search rules; writes = λ h. (ap (zeroed (g.D.SectorDevice.meaning c.args.device.now) a) e, λ z. absurd (omega arith)) }
+    record { counted = omega arith; keeps = search rules; writes = λ s h. (ap (zeroed (g.D.SectorDevice.meaning c.args.device.now) a) e, λ z. absurd (omega arith)) }
 
 pub loop-n-preserved : goal.loop-n-preserved
 loop-n-preserved g c =
@@ -34,15 +34,15 @@ loop-n-preserved g c =
     record {
       counted = omega arith;
       keeps = search rules;
-      writes = λ h.
+      writes = λ s h.
           let m = g.D.SectorDevice.meaning c.args.device.now in
-          let w = step m a (b - a) (n - a) (omega arith) (omega arith) (i.writes h).0
-          (as_numbered a n _ low c.zero_sector-zeros.ensures c.in_ok-write.ensures.writes) in
+          let w = step m a (b - a) (n - a) (omega arith) (omega arith) (i.writes s h).0
+          (as_numbered a n _ low c.zero_sector-zeros.ensures (c.in_ok-write.ensures.writes (i.keeps s).0)) in
           (w.0 ∙ ap (zeroed m a) e, λ _. w.1);
     }
 
 pub returns-in_err-write-clause-writes : goal.returns-in_err-write-clause-writes
-returns-in_err-write-clause-writes g c = λ h.
+returns-in_err-write-clause-writes g c = λ s h.
     let p = err_from_is_err_and c.from_residual.result c.from_residual.ensures.1 in
     let i = c.loop-n.invariant in
     let a = c.args.first in
@@ -50,16 +50,16 @@ returns-in_err-write-clause-writes g c = λ h.
     let n = c.loop-n.n in
     let low = c.loop-n.auto.n in
     let high = c.loop-n-test.true in
-    let k = i.keeps in
-    let w = i.writes h in
+    let k = i.keeps s in
+    let w = i.writes s h in
     rw (p.1, p.2)
     (broke (g.D.SectorDevice.meaning c.args.device.now) a (b - a) (n - a) _ (omega arith) (omega arith)
-    w.0 k w.1 (as_numbered a n _ low c.zero_sector-zeros.ensures c.in_err-write.ensures.writes))
+    w.0 k.1 w.1 (as_numbered a n _ low c.zero_sector-zeros.ensures (c.in_err-write.ensures.writes k.0)))
 
 pub returns-clause-writes : goal.returns-clause-writes
 unfolding applied zeroing
-returns-clause-writes g c = λ h.
-    let q = c.loop-n.invariant.writes h in
+returns-clause-writes g c = λ s h.
+    let q = c.loop-n.invariant.writes s h in
     let same : c.loop-n.n - c.args.first ≡ c.args.end - c.args.first = omega (arith, c.loop-n.invariant.counted) in
     record {
       leaves = q.0 ∙ ap (zeroed (g.D.SectorDevice.meaning c.args.device.now) c.args.first) same;

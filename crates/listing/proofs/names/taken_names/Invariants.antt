@@ -1,7 +1,7 @@
 -- The slots below this one were looked at, and the entries marked whose name is live in one of them: in the sectors
 -- below, and then in the entries' own.
 use Rattle.std.proofs.Common.{◌≡◌, ◌≤◌, length}
-use Rattle.device.specs.Calls.{KeepsFaults}
+use Rattle.device.specs.Calls.{Keeps}
 use Rattle.layout.specs.Sizes.{place_of}
 use Rattle.volume.specs.Directory.{OfCard, directory_sector}
 use Rattle.volume.proofs.Passes.{Looked}
@@ -13,7 +13,7 @@ invariant-loop-slot g l =
     let d = g.D.SectorDevice in
     record {
       long : length l.sector ≡ 512;
-      keeps : KeepsFaults d l.fn.device l.device;
+      keeps : Keeps d l.fn.device l.device;
       looked : OfCard d l.layout l.fn.device l.device (λ t m m'. Looked m m' l.slot l.sector × Marked l.layout m.sectors l.first l.here l.slot l.taken);
     }
 

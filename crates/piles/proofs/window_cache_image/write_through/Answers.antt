@@ -9,4 +9,4 @@ returns c =
     let back =
     c.into_bytes.ensures ∙ ap (λ x. x.bytes.now) c.into_beneath-2.ensures ∙ ap (λ x. x.beneath.bytes.now) c.into_beneath.ensures in
     let w = c.write-answer.ensures in
-    written_through _ _ _ _ _ _ made.bytes made.span back size w.writes w.beneath
+    written_through _ _ _ _ _ _ made.bytes made.span back size (w.writes (tt, λ n b h. absurd (made.entries n b h))) (w.beneath (tt, λ n b h. absurd (made.entries n b h)))

@@ -9,4 +9,4 @@ returns c =
     let size = length_pile _ _ _ _ bytes made.span in
     let back = ap (λ x. x.now.bytes.now) c.into_beneath.ensures in
     let w = c.write-answer.ensures in
-    written_through _ _ _ _ _ _ bytes made.span back size w.writes w.beneath
+    written_through _ _ _ _ _ _ bytes made.span back size (w.writes tt) (w.beneath tt)

@@ -1,6 +1,6 @@
 -- The first bytes are read, up to the end of a sector.
 use Rattle.std.proofs.Common.{◌≡◌, ◌+◌, ◌-◌, ◌*◌, ◌/◌, ◌%◌, ◌<◌, ◌≤◌, length, take}
-use Rattle.device.specs.Calls.{KeepsFaults}
+use Rattle.device.specs.Calls.{Keeps}
 use Rattle.device.specs.Meaning.{Lawful, MayAccept}
 use Rattle.layout.specs.Bytes.{part as part_of}
 use Rattle.volume.specs.Directory.{OfSlot}
@@ -15,7 +15,7 @@ invariant-loop-done g l =
     record {
       within : l.done ≤ n;
       whole : l.done < n → l.done ≡ 512 * ((l.place + l.done) / 512 - l.place / 512) - l.place % 512;
-      keeps : KeepsFaults d l.initial.device l.device;
+      keeps : Keeps d l.initial.device l.device;
       reads : OfSlot d l.layout l.slot l.initial.device l.device (λ t m m'. Lawful m →
           (m' ≡ m) × (0 < l.done → MayAccept m.condition)
           × (l.part ≡ over (take l.done (part_of (block_bytes l.layout m.sectors l.slot) l.place n)) l.initial.part));

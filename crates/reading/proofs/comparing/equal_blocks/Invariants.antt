@@ -1,6 +1,6 @@
 -- The sectors below this one were equal.
 use Rattle.std.proofs.Common.{◌≡◌, ◌*◌, ◌<◌, length, take}
-use Rattle.device.specs.Calls.{KeepsFaults, Means}
+use Rattle.device.specs.Calls.{Keeps, OfSound}
 use Rattle.device.specs.Meaning.{Lawful}
 use Rattle.volume.specs.Directory.{Room}
 use Rattle.reading.specs.Blocks.{block_bytes}
@@ -12,7 +12,7 @@ invariant-loop-i g l =
     record {
       mine_long : length l.mine ≡ 512;
       theirs_long : length l.theirs ≡ 512;
-      keeps : KeepsFaults d l.initial.device l.device;
-      equal : Means d l.initial.device l.device (λ t m m'. l.one < l.layout.slots → l.other < l.layout.slots → Room l.layout m → Lawful m →
+      keeps : Keeps d l.initial.device l.device;
+      equal : OfSound d l.initial.device l.device (λ t m m'. l.one < l.layout.slots → l.other < l.layout.slots → Room l.layout m → Lawful m →
           (m' ≡ m) × (take (512 * l.i) (take l.size (block_bytes l.layout m.sectors l.one)) ≡ take (512 * l.i) (take l.size (block_bytes l.layout m.sectors l.other))));
     }

@@ -16,49 +16,49 @@ has_room n j = leb (length j.bytes) n
 
 pub returns-in_err-job-clause-performs : goal.returns-in_err-job-clause-performs
 unfolding load_plan
-returns-in_err-job-clause-performs g c =
+returns-in_err-job-clause-performs g c = λ s.
     let q = kept c.args.memory.now in
     let r = has_room (length c.args.buffer.now) in
     let ps = card_places q (g.D.SectorDevice.meaning c.args.device.now).sectors in
     let p = err_from_is_err_and c.from_residual.result c.from_residual.ensures.1 in
-    rw (p.1, p.2) (record { ends = λ h. c.in_err-job.ensures.finds h (reads_on ps q r loaded) (on_reads ps q r loaded) })
+    rw (p.1, p.2) (record { ends = λ h. c.in_err-job.ensures.finds s h (reads_on ps q r loaded) (on_reads ps q r loaded) })
 
 pub returns-then-buffer-size-clause-performs : goal.returns-then-buffer-size-clause-performs
 unfolding load_plan
-returns-then-buffer-size-clause-performs g c =
+returns-then-buffer-size-clause-performs g c = λ s.
     let e : c.in_ok-job.job.entry.size ≤ 65535 = omega arith in
     record {
       ends = λ h.
-          let f = c.in_ok-job.ensures.finds h in
-          out_of_bounds _ (has_room (length c.args.buffer.now)) loaded f (lt-leb _ _ (omega (arith, length-job h c.size.ensures.lawful f e)));
+          let f = c.in_ok-job.ensures.finds s h in
+          out_of_bounds _ (has_room (length c.args.buffer.now)) loaded f (lt-leb _ _ (omega (arith, length-job h (c.size.ensures.lawful s) f e)));
     }
 
 pub returns-in_err-read_into-clause-performs : goal.returns-in_err-read_into-clause-performs
 unfolding load_plan
-returns-in_err-read_into-clause-performs g c =
+returns-in_err-read_into-clause-performs g c = λ s.
     let b = c.args.buffer.now in
-    let w = c.size.ensures.lawful in
-    let k = c.in_ok-job.ensures.keeps in
+    let w = c.size.ensures.lawful s in
+    let k = c.in_ok-job.ensures.keeps s in
     let e : c.in_ok-job.job.entry.size ≤ 65535 = omega arith in
     let p = err_from_is_err_and c.from_residual-in_err-read_into.result c.from_residual-in_err-read_into.ensures.1 in
     rw (p.1, p.2)
     (record {
       ends = λ h.
-          let f = c.in_ok-job.ensures.finds h in
-          let r = card_cut 0 (length-take-le c.from-size.result b (omega arith)) c.of.ensures h w f c.in_err-read_into.ensures.reads in
-          read_broken (has_room (length b)) loaded f (le-leb _ _ (omega (arith, length-job h w f e))) k r.refused;
+          let f = c.in_ok-job.ensures.finds s h in
+          let r = card_cut 0 (length-take-le c.from-size.result b (omega arith)) c.of.ensures h w f (c.in_err-read_into.ensures.reads k.0) in
+          read_broken (has_room (length b)) loaded f (le-leb _ _ (omega (arith, length-job h w f e))) k.1 r.refused;
     })
 
 pub returns-in_err-read_into-clause-fills : goal.returns-in_err-read_into-clause-fills
 unfolding load_plan
-returns-in_err-read_into-clause-fills g c = λ h.
+returns-in_err-read_into-clause-fills g c = λ s h.
     let q = kept c.args.memory.now in
     let b = c.args.buffer.now in
-    let w = c.size.ensures.lawful in
-    let f = c.in_ok-job.ensures.finds h in
+    let w = c.size.ensures.lawful s in
+    let f = c.in_ok-job.ensures.finds s h in
     let n = c.from-size.result in
     let e : c.in_ok-job.job.entry.size ≤ 65535 = omega arith in
-    let r = card_cut 0 (length-take-le n b (omega arith)) c.of.ensures h w f c.in_err-read_into.ensures.reads in
+    let r = card_cut 0 (length-take-le n b (omega arith)) c.of.ensures h w f (c.in_err-read_into.ensures.reads (c.in_ok-job.ensures.keeps s).0) in
     let p = err_from_is_err_and c.from_residual-in_err-read_into.result c.from_residual-in_err-read_into.ensures.1 in
     rw (p.1, p.2)
     (inr (filled_cut (has_room (length b)) loaded _ b c.read_into.new.part f (le-leb _ _ (omega (arith, length-job h w f e)))
@@ -66,26 +66,26 @@ returns-in_err-read_into-clause-fills g c = λ h.
 
 pub returns-clause-performs : goal.returns-clause-performs
 unfolding load_plan
-returns-clause-performs g c =
+returns-clause-performs g c = λ s.
     let b = c.args.buffer.now in
-    let w = c.size.ensures.lawful in
+    let w = c.size.ensures.lawful s in
     let e : c.in_ok-job.job.entry.size ≤ 65535 = omega arith in
     record {
       ends = λ h.
-          let f = c.in_ok-job.ensures.finds h in
-          let r = card_read 0 (length-take-le c.from-size.result b (omega arith)) c.of.ensures h w f c.in_ok-read_into.ensures.reads in
+          let f = c.in_ok-job.ensures.finds s h in
+          let r = card_read 0 (length-take-le c.from-size.result b (omega arith)) c.of.ensures h w f (c.in_ok-read_into.ensures.reads (c.in_ok-job.ensures.keeps s).0) in
           read_off Loaded _ (has_room (length b)) loaded f (le-leb _ _ (omega (arith, length-job h w f e))) (told_at h w f e) r.same;
     }
 
 pub returns-clause-fills : goal.returns-clause-fills
 unfolding load_plan
-returns-clause-fills g c = λ h.
+returns-clause-fills g c = λ s h.
     let q = kept c.args.memory.now in
     let b = c.args.buffer.now in
-    let w = c.size.ensures.lawful in
-    let f = c.in_ok-job.ensures.finds h in
+    let w = c.size.ensures.lawful s in
+    let f = c.in_ok-job.ensures.finds s h in
     let n = c.from-size.result in
     let e : c.in_ok-job.job.entry.size ≤ 65535 = omega arith in
-    let r = card_read 0 (length-take-le n b (omega arith)) c.of.ensures h w f c.in_ok-read_into.ensures.reads in
+    let r = card_read 0 (length-take-le n b (omega arith)) c.of.ensures h w f (c.in_ok-read_into.ensures.reads (c.in_ok-job.ensures.keeps s).0) in
     filled_off (has_room (length b)) loaded _ b c.read_into.new.part f (le-leb _ _ (omega (arith, length-job h w f e)))
     (all_bytes q (g.D.SectorDevice.meaning c.args.device.now) c.in_ok-job.job c.from-size.ensures) (length-card 0 n h w f (omega arith)) r

@@ -18,7 +18,7 @@ loop-i-init g c =
       rest = e ∙ ap (λ (k : ℕ). drop (512 * k) b) (sym n);
       some = search rules;
       keeps = search rules;
-      runs = λ l h. performed_as (ap (filling c.args.slot c.args.from (chunk b)) (sym n)) (filling_none c.args.layout.now _ c.args.slot c.args.from (chunk b));
+      runs = λ s l h. performed_as (ap (filling c.args.slot c.args.from (chunk b)) (sym n)) (filling_none c.args.layout.now _ c.args.slot c.args.from (chunk b));
     }
 
 pub loop-i-preserved : goal.loop-i-preserved
@@ -33,17 +33,17 @@ loop-i-preserved g c =
       rest = next_rest k.2 x;
       some = next_le k.2 x;
       keeps = search rules;
-      runs = λ l h.
+      runs = λ s l h.
           performed_as (ap (filling c.args.slot c.args.from (chunk c.args.bytes.now)) (sym k.2))
-          (data_more c.args.layout.now c.args.slot c.args.from c.in-Some.i h l c.requires x c.block_sector.ensures refl k.1 (i.runs l h) c.in_ok-write_part.ensures.writes);
+          (data_more c.args.layout.now c.args.slot c.args.from c.in-Some.i h l c.requires x c.block_sector.ensures refl k.1 (i.runs s l h) (c.in_ok-write_part.ensures.writes (i.keeps s).0));
     }
 
 pub returns-in_err-write_part-clause-runs : goal.returns-in_err-write_part-clause-runs
-returns-in_err-write_part-clause-runs g c = λ l h.
+returns-in_err-write_part-clause-runs g c = λ s l h.
     let i = c.loop-i.invariant in
     let k = c.in-Some.ensures.steps in
-    let v = i.keeps in
+    let v = i.keeps s in
     let p = err_from_is_err_and c.from_residual.result c.from_residual.ensures.1 in
     rw (p.1, p.2)
-    (data_cut c.args.layout.now c.args.slot c.args.from c.in-Some.i v h l c.requires (next_part i.size i.rest k.0.1) c.block_sector.ensures refl k.1 (i.runs l h)
-    c.in_err-write_part.ensures.writes)
+    (data_cut c.args.layout.now c.args.slot c.args.from c.in-Some.i v.1 h l c.requires (next_part i.size i.rest k.0.1) c.block_sector.ensures refl k.1 (i.runs s l h)
+    (c.in_err-write_part.ensures.writes v.0))

@@ -2,7 +2,7 @@
 use Rattle.std.proofs.Common.{◌≡◌, ◌*◌, ◌≤◌, length, drop}
 use Rattle.std.specs.Iterator.Adapters.{enumerate_source, enumerate_count}
 use Rattle.std.specs.Slice.Iter.{chunks_rest, chunks_size}
-use Rattle.device.specs.Calls.{KeepsFaults}
+use Rattle.device.specs.Calls.{Keeps}
 use Rattle.layout.specs.Extents.{extent_of}
 use Rattle.plans.specs.Plans.{filling, chunk}
 use Rattle.volume.specs.Directory.{OfSlot}
@@ -20,6 +20,6 @@ invariant-loop-i g l =
       size : chunks_size (enumerate_source l.i-iterator) ≡ 512;
       rest : chunks_rest (enumerate_source l.i-iterator) ≡ drop (512 * n) l.bytes;
       some : n ≤ (extent_of (length l.bytes)).0;
-      keeps : KeepsFaults d l.initial.device l.device;
+      keeps : Keeps d l.initial.device l.device;
       runs : OfSlot d l.layout l.slot l.initial.device l.device (λ t m m'. Performed l.layout m m' (filling l.slot l.from (chunk l.bytes) n));
     }

@@ -23,9 +23,9 @@ loop-slot-preserved g c =
         in_more _ c.is_usable.result k b c.then_some-in-loop-slot-2.ensures c.or-scan-in-loop-slot-2.ensures q.2,
       );
       keeps = search rules;
-      looked = λ h.
-          let w = i.looked h in
-          let z = c.in_ok-turn_to.ensures.turns (looked_in w.0 h l) in
+      looked = λ s h.
+          let w = i.looked s h in
+          let z = c.in_ok-turn_to.ensures.turns (i.keeps s).0 (looked_in w.0 h l) in
           let o = read_off y x k l (turned_to w.0 z) c.entry_in-entry.ensures c.state-state.ensures in (
             looked_more w.0 z,
             found_more (named c.args.one.now) y x k l o (c.is_named.ensures a) c.then_some.ensures c.or-scan.ensures w.1,
@@ -35,8 +35,8 @@ loop-slot-preserved g c =
     }
 
 pub returns-clause-scans : goal.returns-clause-scans
-returns-clause-scans g c = λ h.
-    let w = c.loop-slot.invariant.looked h in
+returns-clause-scans g c = λ s h.
+    let w = c.loop-slot.invariant.looked s h in
     let y = c.args.layout.now in
     let x = (g.D.SectorDevice.meaning c.args.device.now).sectors in
     let k : c.loop-slot.slot ≡ y.slots = omega arith in

@@ -1,6 +1,6 @@
 -- The slots below this one were looked at.
 use Rattle.std.proofs.Common.{◌≡◌, length}
-use Rattle.device.specs.Calls.{KeepsFaults}
+use Rattle.device.specs.Calls.{Keeps}
 use Rattle.places.specs.Places.{places}
 use Rattle.plans.specs.Slots.{usable, named}
 use Rattle.volume.specs.Directory.{OfCard, found_in, InSlots}
@@ -14,7 +14,7 @@ invariant-loop-slot g l =
     record {
       long : length l.sector ≡ 512;
       inside : InSlots l.slot v.one × InSlots l.slot v.other × InSlots l.slot v.room;
-      keeps : KeepsFaults d l.initial.device l.device;
+      keeps : Keeps d l.initial.device l.device;
       looked : OfCard d l.layout l.initial.device l.device (λ t m m'.
           (let ps = places l.layout m.sectors in
           Looked m m' l.slot l.sector

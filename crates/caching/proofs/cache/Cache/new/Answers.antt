@@ -1,4 +1,9 @@
+use Rattle.std.proofs.Common.{refl}
 use Rattle.caching.proofs.cache.Cache.new.Goals as goal
 
-pub invariant_of-result : goal.invariant_of-result
-invariant_of-result g c = record { sound = λ n b h. absurd (c.none.ensures n b h) }
+pub returns : goal.returns
+returns g c = record {
+  beneath = refl;
+  entries = c.none.ensures;
+  sound = λ s. (s, λ n b h. elim (c.none.ensures n b h) [ ]);
+}

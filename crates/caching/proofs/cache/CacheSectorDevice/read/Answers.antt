@@ -1,25 +1,40 @@
-use Rattle.std.proofs.Common.{◌≡◌, ℕ, ◌<◌, None, subst, rules}
-use Rattle.device.proofs.Checks.{passed}
+use Rattle.std.proofs.Common.{◌≡◌, ℕ, ◌<◌, None, sym, refl, ◌∙◌, subst, rules}
+use Rattle.device.proofs.Checks.{passed, raised_within}
 use Rattle.kept.specs.Kept.{kept_bytes}
-use Rattle.caching.proofs.Kept.{kept_found, not_found, kept_read, true_after_reads}
+use Rattle.caching.specs.Cache.{Kept}
+use Rattle.caching.proofs.Kept.{kept_found, not_found, kept_read, true_after_reads, kept_after}
+use Rattle.layers.proofs.Passed.{passed_reads}
 use Rattle.caching.proofs.cache.CacheSectorDevice.read.Goals as goal
 
-pub returns-in-Some-clause-reads : goal.returns-in-Some-clause-reads
-returns-in-Some-clause-reads g c =
+pub returns-in-Some : goal.returns-in-Some
+returns-in-Some g c =
     let xs = c.args.self.now.entries.places in
-    kept_read xs c.args.self.now.sound (kept_found xs c.args.n _ (search rules) (search rules)) (passed c.in_ok-check_transfer.ensures).0
-
-pub returns-in-Some-clause-keeps : goal.returns-in-Some-clause-keeps
-returns-in-Some-clause-keeps g c e = kept_found c.args.self.now.entries.places c.args.n _ (search rules) (search rules)
-
-pub invariant_of-self : goal.invariant_of-self
-invariant_of-self g c =
     let p = passed c.in_ok-check_transfer.ensures in
-    let h = subst (λ (j : ℕ). c.args.n < j) c.size.ensures.value p.1 in
+    let h : Kept xs c.args.n c.copy_from_slice.new.self =
+    kept_found xs c.args.n _ (search rules) (search rules) in
     record {
-      sound = true_after_reads c.read-answer.result _ _ c.args.self.now.sound c.follow.ensures p.0 h c.read-answer.ensures.reads;
+      stays = λ s. s;
+      faults = λ s a n f p. p;
+      reads = λ s. kept_read xs s.1 h p.0;
+      untouched = λ b h. refl;
+      keeps = λ e. h;
     }
 
-pub returns-clause-untouched : goal.returns-clause-untouched
-returns-clause-untouched g c b h =
-    absurd (not_found c.args.self.now.entries.places c.args.n (let q : kept_bytes c.args.self.now.entries.places c.args.n ≡ None = search rules in q) h.0 b h.2)
+pub returns : goal.returns
+returns g c =
+    let xs = c.args.self.now.entries.places in
+    let a = c.read-answer.result in
+    let e = c.read-answer.ensures in
+    let p = passed c.in_ok-check_transfer.ensures in
+    let followed = c.follow.ensures in
+    record {
+      stays = λ s.
+          let h = subst (λ (j : ℕ). c.args.n < j) (c.size.ensures.value s.0) p.1 in
+          (e.stays s.0, true_after_reads a xs _ s.1 followed p.0 h (e.reads s.0));
+      faults = λ s. raised_within (λ n. n) (e.faults s.0);
+      reads = λ s.
+          let h = subst (λ (j : ℕ). c.args.n < j) (c.size.ensures.value s.0) p.1 in
+          passed_reads c.passed_on.ensures p.0 h (e.reads s.0);
+      untouched = λ b h. absurd (not_found xs c.args.n (let q : kept_bytes xs c.args.n ≡ None = search rules in q) h.0 b h.2);
+      keeps = λ ok. kept_after c.args.n c.read-answer.new.buf a xs _ followed (sym c.passed_on.ensures ∙ ok);
+    }

@@ -10,10 +10,11 @@ returns-in_err-check_transfer g c =
     let m = g.D.SectorDevice.meaning d.beneath in
     let p = err_from_is_err_and c.from_residual.result c.from_residual.ensures.1 in
     record {
-      faults = λ a n f q. q;
-      reads =
-          rw (p.1, p.2) (refused_read (c.count_now.ensures.value ∙ sym (length_window m.sectors d.span.first d.span.count)) c.in_err-check_transfer.ensures);
-      beneath = none_read_beneath (c.count_now.ensures.value) c.in_err-check_transfer.ensures;
+      stays = λ s. s;
+      faults = λ s a n f q. q;
+      reads = λ s.
+          rw (p.1, p.2) (refused_read (c.count_now.ensures.value s ∙ sym (length_window m.sectors d.span.first d.span.count)) c.in_err-check_transfer.ensures);
+      beneath = λ s. none_read_beneath (c.count_now.ensures.value s) c.in_err-check_transfer.ensures;
       span = refl;
     }
 
@@ -22,12 +23,13 @@ returns g c =
     let d = c.args.self.now in
     let p = passed c.in_ok-check_transfer.ensures in
     record {
-      faults = raised_within (λ n. d.span.first + n) (c.read.ensures.faults);
-      reads =
-          let h = subst (λ (j : ℕ). c.args.n < j) (c.count_now.ensures.value) p.1 in
-          window_reads d.span.first d.span.count c.args.n c.passed_on.ensures h p.0 (c.read.ensures.reads);
-      beneath =
-          let h = subst (λ (j : ℕ). c.args.n < j) (c.count_now.ensures.value) p.1 in
-          read_beneath d.span.first d.span.count c.args.n c.passed_on.ensures h p.0 (c.read.ensures.reads);
+      stays = λ s. c.read.ensures.stays s;
+      faults = λ s. raised_within (λ n. d.span.first + n) (c.read.ensures.faults s);
+      reads = λ s.
+          let h = subst (λ (j : ℕ). c.args.n < j) (c.count_now.ensures.value s) p.1 in
+          window_reads d.span.first d.span.count c.args.n c.passed_on.ensures h p.0 (c.read.ensures.reads s);
+      beneath = λ s.
+          let h = subst (λ (j : ℕ). c.args.n < j) (c.count_now.ensures.value s) p.1 in
+          read_beneath d.span.first d.span.count c.args.n c.passed_on.ensures h p.0 (c.read.ensures.reads s);
       span = refl;
     }

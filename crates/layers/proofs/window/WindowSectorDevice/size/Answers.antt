@@ -7,6 +7,6 @@ returns g c =
     let d = c.args.self.now in
     let m = g.D.SectorDevice.meaning d.beneath in
     record {
-      lawful = window_lawful m d.span.first d.span.count (c.count_now.ensures.lawful);
-      value = c.count_now.ensures.value ∙ sym (length_window m.sectors d.span.first d.span.count);
+      lawful = λ s. window_lawful m d.span.first d.span.count (c.count_now.ensures.lawful s);
+      value = λ s. c.count_now.ensures.value s ∙ sym (length_window m.sectors d.span.first d.span.count);
     }

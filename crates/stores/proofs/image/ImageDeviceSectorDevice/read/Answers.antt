@@ -15,14 +15,16 @@ returns c =
     let p = passed c.in_ok-check_transfer.ensures in
     let h = subst (λ (j : ℕ). c.args.n < j) c.count_of.ensures p.1 in
     record {
-      faults = λ a k f z. z;
-      reads = image_reads _ _ _ _ _ h p.0 c.copy_sector.ensures;
+      stays = λ u. u;
+      faults = λ u a k f z. z;
+      reads = λ u. image_reads _ _ _ _ _ h p.0 c.copy_sector.ensures;
     }
 
 pub returns-in_err-check_transfer : goal.returns-in_err-check_transfer
 returns-in_err-check_transfer c =
     let p = err_from_is_err_and c.from_residual.result c.from_residual.ensures.1 in
     record {
-      faults = λ a k f z. z;
-      reads = rw (p.1, p.2) (refused_read (c.count_of.ensures ∙ sym (length-sectors_in _ _)) c.in_err-check_transfer.ensures);
+      stays = λ u. u;
+      faults = λ u a k f z. z;
+      reads = λ u. rw (p.1, p.2) (refused_read (c.count_of.ensures ∙ sym (length-sectors_in _ _)) c.in_err-check_transfer.ensures);
     }

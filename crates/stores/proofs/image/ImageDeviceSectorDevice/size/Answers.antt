@@ -4,6 +4,6 @@ use Rattle.stores.proofs.image.ImageDeviceSectorDevice.size.Goals as goal
 
 pub returns : goal.returns
 returns c = record {
-  lawful = image_lawful _ _ c.count_in.ensures.bytes;
-  value = c.count_in.ensures.value ∙ sym (length-sectors_in _ _);
+  lawful = λ s. image_lawful _ _ c.count_in.ensures.bytes;
+  value = λ s. c.count_in.ensures.value ∙ sym (length-sectors_in _ _);
 }

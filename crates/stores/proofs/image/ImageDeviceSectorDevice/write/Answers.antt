@@ -9,14 +9,16 @@ returns c =
     let p = passed c.in_ok-check_transfer.ensures in
     let h = subst (λ (j : ℕ). c.args.n < j) c.count_of.ensures p.1 in
     record {
-      faults = λ a k f z. z;
-      writes = image_writes _ _ _ _ _ h c.copy_from_slice.ensures.after p.0;
+      stays = λ u. u;
+      faults = λ u a k f z. z;
+      writes = λ u. image_writes _ _ _ _ _ h c.copy_from_slice.ensures.after p.0;
     }
 
 pub returns-in_err-check_transfer : goal.returns-in_err-check_transfer
 returns-in_err-check_transfer c =
     let p = err_from_is_err_and c.from_residual.result c.from_residual.ensures.1 in
     record {
-      faults = λ a k f z. z;
-      writes = rw (p.1, p.2) (refused_write (c.count_of.ensures ∙ sym (length-sectors_in _ _)) c.in_err-check_transfer.ensures);
+      stays = λ u. u;
+      faults = λ u a k f z. z;
+      writes = λ u. rw (p.1, p.2) (refused_write (c.count_of.ensures ∙ sym (length-sectors_in _ _)) c.in_err-check_transfer.ensures);
     }

@@ -11,8 +11,9 @@ returns-in_err-check_transfer c =
     let d = c.args.self.now in
     let p = err_from_is_err_and c.from_residual.result c.from_residual.ensures.1 in
     record {
-      faults = λ a k f z. z;
-      reads = rw (p.1, p.2) (refused_read (sym (length_sparse d.size d.places.now)) c.in_err-check_transfer.ensures);
+      stays = λ u. u;
+      faults = λ u a k f z. z;
+      reads = λ u. rw (p.1, p.2) (refused_read (sym (length_sparse d.size d.places.now)) c.in_err-check_transfer.ensures);
       accepted = λ w l m. p.1 ∙ ap Err p.2 ∙ c.in_err-check_transfer.ensures.otherwise l m;
       unchanged = refl;
     }
@@ -22,8 +23,9 @@ returns-then-self c =
     let d = c.args.self.now in
     let p = passed c.in_ok-check_transfer.ensures in
     record {
-      faults = λ a k f z. z;
-      reads = sparse_read_refused d.places.now d.size d.geometry d.failed c.args.n _ _ c.if-self.true c.new.ensures p.1 p.0;
+      stays = λ u. u;
+      faults = λ u a k f z. z;
+      reads = λ u. sparse_read_refused d.places.now d.size d.geometry d.failed c.args.n _ _ c.if-self.true c.new.ensures p.1 p.0;
       accepted = λ w l m. absurd (both_ways d.failed w c.if-self.true);
       unchanged = refl;
     }
@@ -33,8 +35,9 @@ returns c =
     let d = c.args.self.now in
     let p = passed c.in_ok-check_transfer.ensures in
     record {
-      faults = λ a k f z. z;
-      reads = sparse_read d.places.now d.size d.geometry d.failed c.args.n _ _ c.if-self.false p.1 p.0 c.copy_sector.ensures;
+      stays = λ u. u;
+      faults = λ u a k f z. z;
+      reads = λ u. sparse_read d.places.now d.size d.geometry d.failed c.args.n _ _ c.if-self.false p.1 p.0 c.copy_sector.ensures;
       accepted = λ w l m. refl;
       unchanged = refl;
     }

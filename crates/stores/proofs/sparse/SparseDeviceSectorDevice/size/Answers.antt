@@ -7,6 +7,6 @@ pub returns : goal.returns
 returns c =
     let d = c.args.self.now in
     record {
-      lawful = sparse_lawful d.places.now d.size d.geometry d.failed d.sound;
-      value = sym (length_sparse d.size d.places.now);
+      lawful = λ u. sparse_lawful d.places.now d.size d.geometry d.failed d.sound;
+      value = λ u. sym (length_sparse d.size d.places.now);
     }

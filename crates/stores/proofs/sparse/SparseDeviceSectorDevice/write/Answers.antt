@@ -15,8 +15,9 @@ returns-in_err-check_transfer c =
     let p = err_from_is_err_and c.from_residual.result c.from_residual.ensures.1 in
     let t = c.in_err-check_transfer.ensures in
     record {
-      faults = λ a k f z. z;
-      writes = rw (p.1, p.2) (refused_write (sym (length_sparse d.size d.places.now)) t);
+      stays = λ u. u;
+      faults = λ u a k f z. z;
+      writes = λ u. rw (p.1, p.2) (refused_write (sym (length_sparse d.size d.places.now)) t);
       begins = begins_unchecked d.places.now d.size c.args.n c.args.buf.now d.failed _ _ t;
       table = rw p.1 refl;
     }
@@ -26,8 +27,9 @@ returns-then-self c =
     let d = c.args.self.now in
     let p = passed c.in_ok-check_transfer.ensures in
     record {
-      faults = λ a k f z. z;
-      writes =
+      stays = λ u. u;
+      faults = λ u a k f z. z;
+      writes = λ u.
           sparse_write_refused d.places.now d.size d.geometry d.failed d.failed c.args.n _ _ c.if-self.true c.new.ensures p.1 p.0;
       begins =
           begins_elsewhere d.places.now d.size c.args.n c.args.buf.now d.failed _
@@ -50,8 +52,9 @@ returns-then-is_zero c =
     let z = c.if-is_zero.ensures.0 refl in
     let e = c.give_back.ensures in
     record {
-      faults = λ a k f q. q;
-      writes =
+      stays = λ u. u;
+      faults = λ u a k f q. q;
+      writes = λ u.
           sparse_write xs _ d.size d.geometry d.failed c.args.n c.args.buf.now c.if-self.false p.1 p.0
           (ap (sparse_sectors d.size) e ∙ sectors_given_back d.size c.args.n xs
           ∙ ap (λ (v : List ℕ). set (sparse_sectors d.size xs) c.args.n v) (sym z));
@@ -88,8 +91,9 @@ returns-in-Some c =
     let e : set xs i (Some (record { sector = n; bytes = c.unwrap.result })) ≡ set xs i (Some (record { sector = n; bytes = b })) =
     ap (λ (v : List ℕ). set xs i (Some (record { sector = n; bytes = v }))) own in
     record {
-      faults = λ a k f q. q;
-      writes =
+      stays = λ u. u;
+      faults = λ u a k f q. q;
+      writes = λ u.
           sparse_write xs _ d.size d.geometry d.failed n b c.if-self.false p.1 p.0
           (ap (sparse_sectors d.size) e ∙ sectors_placed d.size i n xs b place);
       begins = begins_not xs d.size n b d.failed (λ z f. not_full xs n i place f);
@@ -102,8 +106,9 @@ returns-in-None c =
     let p = passed c.in_ok-check_transfer.ensures in
     let o : c.args.buf.now ≢ zeros 512 = λ z. both_ways c.is_zero.result c.if-is_zero.false (c.is_zero.ensures.1 z) in
     record {
-      faults = λ a k f z. z;
-      writes =
+      stays = λ u. u;
+      faults = λ u a k f z. z;
+      writes = λ u.
           sparse_write_refused d.places.now d.size d.geometry d.failed _ c.args.n _ _ refl c.new-in-None.ensures p.1 p.0;
       begins = begins_here d.places.now d.size c.args.n c.args.buf.now d.failed _ c.new-in-None.ensures p.0 p.1 o c.in-None.ensures;
       table = refl;
