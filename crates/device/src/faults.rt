@@ -6,11 +6,11 @@ ghost use Rattle.device.specs.Faults.{cause_number, act_number, fault, raised_fa
 #[derive(Clone, Copy, PartialEq, Eq, Debug)]
 pub enum Cause {
     // the buffer is not one sector long
-    Length = 1,
+    Length,
     // there is no such sector
-    Range = 2,
+    Range,
     // the device itself would not
-    Device = 3,
+    Device,
 }
 
 // `number` of causes and of acts is the same line: a trait, or a `From`, would need it for each of them too.
@@ -18,22 +18,22 @@ impl Cause {
     pub fn number(self) -> u8
         ensures { result ≡ cause_number self }
     {
-        self as u8
+        self as u8 + 1 // 1 to 3
     }
 }
 
 // What was asked of the device.
 #[derive(Clone, Copy, PartialEq, Eq, Debug)]
 pub enum Act {
-    Read = 1,
-    Write = 2,
+    Read,
+    Write,
 }
 
 impl Act {
     pub fn number(self) -> u8
         ensures { result ≡ act_number self }
     {
-        self as u8
+        self as u8 + 1 // 1 or 2
     }
 }
 

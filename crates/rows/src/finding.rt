@@ -5,21 +5,21 @@ ghost use Rattle.rows.specs.Findings.{finding_number};
 #[derive(Clone, Copy, PartialEq, Eq, Debug)]
 pub enum FindingKind {
     // the name is not lawful
-    Name = 1,
+    Name,
     // the slot field is not the slot
-    Slot = 2,
+    Slot,
     // the first sector is not that of the slot's block
-    FirstSector = 3,
+    FirstSector,
     // the size in sectors is not that of the size in bytes
-    Sectors = 4,
+    Sectors,
     // a live job in a lower slot has the name
-    NameTaken = 5,
+    NameTaken,
     // the slot has no block on the card, and is not empty
-    NoBlock = 6,
+    NoBlock,
     // a wipe was cut off
-    Held = 7,
+    Held,
     // the type is none of BAS, BIN and SEQ
-    FileType = 8,
+    FileType,
 }
 
 // A line, as the numbers of faults have: this crate stands on no other.
@@ -27,7 +27,7 @@ impl FindingKind {
     pub fn number(self) -> u8
         ensures { result ≡ finding_number self }
     {
-        self as u8
+        self as u8 + 1
     }
 }
 
