@@ -1,7 +1,6 @@
 // The label: what the master sector says of a card.
-ghost use Rattle.std.specs.Prelude.{◌≡◌, ℕ, ◌++◌, length, take, map, Ok};
-ghost use Rattle.layout.specs.Label.{signature, label_head, label_sector, field, checks_of, bad_field, label_in, read_label, LawfulLabel};
-ghost use Rattle.layout.specs.Words.{double_at};
+ghost use Rattle.std.specs.Prelude.{◌≡◌, ℕ, ◌++◌, length, take, Ok};
+ghost use Rattle.layout.specs.Label.{signature, label_head, label_sector, bad_field, label_in, read_label, LawfulLabel};
 
 use crate::sizes::Layout;
 use crate::words::{double_at, put_double, put_word, word_at};
@@ -86,29 +85,32 @@ fn sign(sector: &mut [u8; 512])
     sector[0x1FE..0x200].copy_from_slice(b"80");
 }
 
-// The offset of the first field of a master sector that does not hold what it must, if there is one.
+// The offset of the first field of a master sector that does not hold what it must, if there is one. Field by field, since most
+// sectors that are no label fail at once: a list of all the checks, made before it is searched, takes twice as long for them.
 fn bad_field(sector: &[u8; 512], size: u32) -> Option<u16>
     ensures { result ≡ bad_field size sector.now }
 {
-    checks(sector, size)
-        .iter()
-        .find(|(_, holds)| !holds)
-        .map(|(offset, _)| *offset)
-}
-
-// The fields that are checked, in order: the offset of each, and whether it holds what it must. Pairs, since a struct of them
-// would have no other use.
-fn checks(sector: &[u8; 512], size: u32) -> [(u16, bool); 7]
-    ensures { map (λ f. field f.0 f.1) result ≡ checks_of size (double_at sector.now 15) sector.now }
-{
+    if size == 0 || sector[0x000..0x009] != b"LM80C DOS"[..] {
+        return Some(0x000);
+    }
+    if sector[0x00A..0x00E] != b"1.06"[..] {
+        return Some(0x00A);
+    }
     let layout = Layout::of(double_at(sector, 0x00F));
-    [
-        (0x000, size > 0 && sector[0x000..0x009] == b"LM80C DOS"[..]),
-        (0x00A, sector[0x00A..0x00E] == b"1.06"[..]),
-        (0x00F, layout.sectors <= size && layout.slots > 0),
-        (0x019, word_at(sector, 0x019) == layout.entries),
-        (0x01B, word_at(sector, 0x01B) == 1),
-        (0x01D, word_at(sector, 0x01D) == layout.area),
-        (0x1FE, sector[0x1FE..0x200] == b"80"[..]),
-    ]
+    if layout.sectors > size || layout.slots == 0 {
+        return Some(0x00F);
+    }
+    if word_at(sector, 0x019) != layout.entries {
+        return Some(0x019);
+    }
+    if word_at(sector, 0x01B) != 1 {
+        return Some(0x01B);
+    }
+    if word_at(sector, 0x01D) != layout.area {
+        return Some(0x01D);
+    }
+    if sector[0x1FE..0x200] != b"80"[..] {
+        return Some(0x1FE);
+    }
+    None
 }

@@ -50,19 +50,23 @@ pub fn is_name_byte(byte: u8) -> bool
     is_name_char(char::from(byte))
 }
 
-// By the project's rule a loop over the bytes tests each.
+// By the project's rule a loop over the bytes tests each. In one pass: a second one, by `any`, takes half as long again for a whole name.
 fn is_lawful(name: &[u8]) -> bool
     ensures { result ≡ lawful_name name.now }
 {
     if name.len() > 16 {
         return false;
     }
+    let mut shown = false;
     for b in name {
         if !is_name_byte(*b) {
             return false;
         }
+        if *b != b' ' {
+            shown = true;
+        }
     }
-    name.iter().any(|b| *b != b' ')
+    shown
 }
 
 // At most sixteen bytes, with spaces behind them: no conversion of the library pads.
