@@ -9,3 +9,6 @@ mod bad_input;
 mod layers_over;
 // Caches in types of a caller's own.
 mod held_caches;
+// The calls on devices that are always sound.
+#[cfg(test)]
+mod sound_calls;

@@ -1,0 +1,5 @@
+use Rattle.sound.proofs.sound_cache.SoundCacheSectorDevice.write.Goals as goal
+
+pub invariant_of-self : goal.invariant_of-self
+invariant_of-self g c = let d = c.args.self.now in
+    record { sound = (c.write.ensures.stays (g.met.D.SoundDevice.always d.cache.beneath, d.sound)).1 }
