@@ -1,5 +1,4 @@
 -- There is at most one proof that what is kept is true of a device, as a ghost field asks.
-use Rattle.std.specs.Prelude.{◌<◌, length}
 use Rattle.std.specs.Coded.{Coded-set, coded_list, coded_ℕ, Unit-prop, le_prop}
 use Rattle.device.specs.Meaning.{Meaning, Condition, steady, well, failed, MayAccept, sector}
 use Rattle.caching.specs.Cache.{TrueOf}

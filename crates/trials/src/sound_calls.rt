@@ -1,5 +1,5 @@
-// The calls on a device of a make each value of which is sound: what they promise of a sound device they promise of it with no
-// condition. Each function here says so of the call of its name, and the tests make every call.
+// The calls on a device of a make each value of which is sound: what they promise of a sound device they promise of every such
+// one. Each function here says so of the call in its body, and the tests make every call.
 ghost use Rattle.device.specs.Meaning.{Lawful};
 ghost use Rattle.trials.specs.SoundCalls.{AsksRead, AsksWrite, OfCard, OfEntry, OfSlot};
 ghost use Rattle.entries.specs.Entry.{resized};
@@ -20,7 +20,7 @@ ghost use Rattle.reading.specs.Blocks.{ReadsInto, block_bytes};
 ghost use Rattle.reading.specs.Buffers.{Filled};
 ghost use Rattle.runs.specs.Writes.{Written, zeroing};
 ghost use Rattle.sound.specs.Calls.{KeepsFaults, Means, ReadsSector, WritesSector};
-ghost use Rattle.std.specs.Prelude.{OnErr, [], ℕ, length, ◌*◌, ◌+◌, ◌-◌, ◌<◌, ◌∷◌, ◌≡◌, ◌≤◌};
+ghost use Rattle.std.specs.Prelude.{OnErr, [], length, ◌*◌, ◌+◌, ◌-◌, ◌∷◌, ◌≡◌, ◌≤◌};
 ghost use Rattle.streaming.specs.Opened.{HandleOf};
 ghost use Rattle.volume.specs.Directory.{FoundIn, Holds, ReadsEntry, ScanIn, Scans, Seeks, Turns};
 ghost use Rattle.volume.specs.Kept.{kept};
@@ -389,7 +389,6 @@ fn sweep<D: SoundDevice>(device: &mut D, memory: &Memory) -> Result<(), Refusal>
     changing::sweep(device, memory)
 }
 
-#[cfg(test)]
 mod tests {
     use super::*;
     use device::zero_sector;
@@ -534,6 +533,8 @@ mod tests {
         assert_eq!(rt; look(&mut card, &mut buffer), Ok((600, 100, true)));
         assert_eq!(rt; buffer[599], 65);
         assert_eq!(rt; buffer[600], 0);
+        assert_eq!(rt; search(&mut card, &padded(b"TWO")), Ok((true, true)));
+        assert_eq!(rt; search(&mut card, &padded(b"SIX")), Ok((false, true)));
         Ok(())
     }
 
@@ -564,7 +565,6 @@ mod tests {
         };
         assert_eq!(rt; fill(&mut card), Ok((0, 9)));
         assert_eq!(rt; enter(&mut card, &entry), Ok((600, b'O')));
-        assert_eq!(rt; search(&mut card, &padded(b"ONE")), Ok((false, true)));
         Ok(())
     }
 
@@ -582,5 +582,7 @@ mod tests {
         assert_eq!(rt; write_window(&mut window, 1, &[6; 512]), Ok(()));
         assert_eq!(rt; read_window(&mut window, 0, &mut sector), Ok(()));
         assert_eq!(rt; sector[511], 5);
+        assert_eq!(rt; read_window(&mut window, 1, &mut sector), Ok(()));
+        assert_eq!(rt; sector[511], 6);
     }
 }
