@@ -406,7 +406,7 @@ mod tests {
     };
 
     // A card of four slots in an image of 528 sectors.
-    const SPAN: Span = Span {
+    const CARD: Span = Span {
         first: 8,
         count: 520,
     };
@@ -416,7 +416,7 @@ mod tests {
     // A window on a cache, each value of which is sound, on a counted image.
     fn card_on<'a>(bytes: &'a mut [u8]) -> Window<SoundCache<Counting<ImageDevice<'a>>>> {
         let image = ImageDevice::new(bytes, GEOMETRY);
-        Window::new(SoundCache::new(Counting::new(image)), SPAN)
+        Window::new(SoundCache::new(Counting::new(image)), CARD)
     }
 
     // A name with spaces to 16 bytes; all zero where it is no lawful one.
@@ -504,16 +504,18 @@ mod tests {
         Ok((part[511], part[512]))
     }
 
-    // An entry written on an empty directory and given a size; answers that size and the first byte of its sector.
-    fn enter<D: SoundDevice>(card: &mut D, entry: &Entry) -> Result<(u16, u8), Fault> {
+    // An entry written on a directory that is zeroed first, and given a size; answers that size and the first bytes of its entry and the next.
+    fn enter<D: SoundDevice>(card: &mut D, entry: &Entry) -> Result<(u16, u8, u8), Fault> {
         let layout = Layout::of(520);
         let mut sector = zero_sector();
+        write_entry(card, 1, entry, &mut sector)?;
         write_zeros(card, 1, 3)?;
         write_entry(card, 0, entry, &mut sector)?;
         resize_entry(card, &layout, 0, 600)?;
+        sector = zero_sector();
         turn_to(card, 0, &mut sector)?;
         let read = read_entry(card, &layout, 0)?;
-        Ok((read.size, sector[0]))
+        Ok((read.size, sector[0], sector[32]))
     }
 
     // Whether a name is found, and whether there is room.
@@ -564,7 +566,7 @@ mod tests {
             ..Entry::default()
         };
         assert_eq!(rt; fill(&mut card), Ok((0, 9)));
-        assert_eq!(rt; enter(&mut card, &entry), Ok((600, b'O')));
+        assert_eq!(rt; enter(&mut card, &entry), Ok((600, b'O', 0)));
         Ok(())
     }
 
