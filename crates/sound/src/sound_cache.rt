@@ -41,7 +41,7 @@ impl<D: SoundDevice> SectorDevice for SoundCache<D> {
 
     ghost meaning = { λ d. (sound_cache_layer D.SectorDevice).meaning d };
 
-    ghost sound = { λ d. Unit {0} };
+    ghost sound = { λ d. (sound_cache_layer D.SectorDevice).sound d };
 
     ghost faults = { λ d. (sound_cache_layer D.SectorDevice).faults d };
 

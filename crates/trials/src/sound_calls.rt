@@ -504,7 +504,8 @@ mod tests {
         Ok((part[511], part[512]))
     }
 
-    // An entry written on a directory that is zeroed first, and given a size; answers that size and the first bytes of its entry and the next.
+    // An entry written on a directory that is zeroed first, and given a size; answers that size and the first byte of this
+    // entry and of the next.
     fn enter<D: SoundDevice>(card: &mut D, entry: &Entry) -> Result<(u16, u8, u8), Fault> {
         let layout = Layout::of(520);
         let mut sector = zero_sector();
